@@ -1,0 +1,9 @@
+pub mod Bools
+pub mod Numbers
+pub mod Sums
+pub mod Members
+pub mod Select
+pub mod Merge
+pub mod Parts
+pub mod Passes
+pub mod Filling

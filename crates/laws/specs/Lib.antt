@@ -1,0 +1,5 @@
+pub mod Plain
+pub mod Rows
+pub mod Parts
+pub mod Tests
+pub mod Words
