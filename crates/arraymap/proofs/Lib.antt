@@ -1,0 +1,11 @@
+pub mod Stretches
+pub mod Placing
+pub mod Seeking
+pub mod Tests
+pub mod Columns
+pub mod Whole
+pub mod Inserting
+pub mod Mapped
+pub mod Shown
+pub mod Verdict
+pub mod Means

@@ -1,0 +1,4 @@
+pub mod Index
+pub mod Show
+pub mod Check
+pub mod Steps

@@ -1,0 +1,13 @@
+pub mod Places
+pub mod Filled
+pub mod Finding
+pub mod Steps
+pub mod OneNumber
+pub mod Answers
+pub mod Forward
+pub mod Cuts
+pub mod Laying
+pub mod Settling
+pub mod Adding
+pub mod Walking
+pub mod Keeping
