@@ -36,7 +36,7 @@ merge-cut (x ∷ a) (y ∷ b) c e p q =
     (λ h. merge-gt x y (a ++ c) (b ++ e) h
     ∙ ap (λ (l : List ℕ). y ∷ l) (merge-cut (x ∷ a) b c e p (λ k l m. q (suc k) (omega arith) m)) ∙ rw (merge-gt x y a b h))
 
--- i numbers of D and j of B are the ones below some height, and their sum has w numbers
+-- D is cut at i, B at j and their sum at w, so that the three fronts sum up and every number before a cut is smaller than the other row's next one
 pub record Cut (D B : List ℕ) (i j w : ℕ) : Type 0 where
   pub i-le : i ≤ length D
   pub j-le : j ≤ length B
@@ -95,7 +95,7 @@ module _ (D B : List ℕ) (i j : ℕ) (il : i ≤ length D) (jl : j ≤ length B
         rest = ap (λ (t : List ℕ). drop w t) cut-sum ∙ drop-at (xorMerge (take i D) (take j B)) (xorMerge (drop i D) (drop j B)) w l;
       }
 
--- all that was taken is of D
+-- a cut that has taken nothing of B has taken D's own numbers
 pub cut-zero : (D B : List ℕ) (p : ℕ) → p ≤ length D → ((k : ℕ) → k < p → 0 < length B → getD D k 0 < getD B 0 0) → Cut D B p 0 p
 cut-zero D B p h left =
     let r : (k : ℕ) → k < 0 → p < length D → getD B k 0 < getD D p 0 = λ k l g. absurd (omega arith) in
@@ -107,7 +107,7 @@ module _ (D B : List ℕ) (rd : Rising D) (rb : Rising B) (i j w : ℕ) (C : Cut
   pub cut-length : w + length (xorMerge (drop i D) (drop j B)) ≡ length (xorMerge D B)
   cut-length = omega (arith, C .w-le, length-drop w (xorMerge D B), ap length (C .rest))
 
-  -- what is left of the sum lies above what was taken
+  -- a number of D before its cut is smaller than every number of the sum behind its own
   pub above-d : (k p : ℕ) → k < i → w ≤ p → p < length (xorMerge D B) → getD D k 0 < getD (xorMerge D B) p 0
   above-d k p l h g =
       let f : From (suc (getD D k 0)) (xorMerge (drop i D) (drop j B)) =
@@ -119,7 +119,7 @@ module _ (D B : List ℕ) (rd : Rising D) (rb : Rising B) (i j w : ℕ) (C : Cut
       let u : getD (xorMerge (drop i D) (drop j B)) (p - w) 0 ≡ getD (xorMerge D B) p 0 = rw (C .rest) at t in
       omega (arith, u, from-at (suc (getD D k 0)) (xorMerge (drop i D) (drop j B)) (p - w) f (omega (arith, cut-length)))
 
-  -- one step up: the next number of the sum is y
+  -- the cuts move forward past y, the sum's next number
   module _ (y : ℕ) (z : List ℕ) (e : xorMerge (drop i D) (drop j B) ≡ y ∷ z) where
     pub next-in : w < length (xorMerge D B)
     next-in = rest-more (xorMerge D B) w y z (C .rest ∙ e)
@@ -184,7 +184,7 @@ module _ (D B : List ℕ) (rd : Rising D) (rb : Rising B) (i j w : ℕ) (C : Cut
     right = λ k l g. absurd (omega arith);
   }
 
-  -- one step down
+  -- the cuts move back by one number
   module _ (h : ℕ) (ih : i ≡ suc h) (low : (k : ℕ) → k < j → getD B k 0 < getD D h 0) where
     d-next : xorMerge (drop h D) (drop j B) ≡ getD D h 0 ∷ xorMerge (drop i D) (drop j B)
     d-next =

@@ -49,7 +49,7 @@ module _ (S : List ℕ) (d dl s sl : ℕ) (P : CanMerge S d dl s sl) where
   sum-long = omega (arith, merge-length (part S (d + sl) dl) (part S s sl), d-long, s-long)
 
   module _ (T : List ℕ) (i j n : ℕ) (H : Merging S T d dl s sl i j n) where
-    -- the two numbers that are read
+    -- the numbers that the turn compares
     read-d : (k : ℕ) → i ≤ k → k < dl → getD T (d + sl + k) 0 ≡ getD (part S (d + sl) dl) k 0
     read-d k l h = H .left k l h ∙ sym (part-at S (d + sl) dl k h)
 

@@ -19,7 +19,7 @@ use Rattle.sparse_vec.proofs.Finding.{rising-lt}
 use Rattle.sparse_vec.proofs.Steps.{at-end}
 use Rattle.sparse_vec.proofs.Cuts.{Cut, cut-zero, cut-length, above-d, back-d, back-d-pos, back-d-is, back-b, back-b-pos, back-b-is, back-eq}
 
--- a place of the first row that is not yet read is as it was
+-- the downward pass has not touched a place of row D that it still has to read
 pub laid-old : (O U : List ℕ) (d : ℕ) (D B : List ℕ) → Rising D → Rising B → (v : ℕ) → Laid O U d D (xorMerge D B) v
     → (i j w : ℕ) → Cut D B i j w → (h : ℕ) → h ≤ i → h < length D → w ≤ h → getD U (d + h) 0 ≡ getD O (d + h) 0
 laid-old O U d D B rd rb v L i j w C zero a b c = L .old-first 0 refl b
@@ -29,7 +29,7 @@ laid-old O U d D B rd rb v L i j w C (suc q) a b c =
     (λ p. L .old-top (suc q) p)
     (lt-or-le (suc q) (length (xorMerge D B)))
 
--- what lies apart is as it was
+-- nor any place outside of the row's stretch
 pub laid-apart : (O U : List ℕ) (d : ℕ) (D X : List ℕ) (v : ℕ) → Laid O U d D X v → (s sl j : ℕ) → (d + length X ≤ s) ⊎ (s + sl ≤ d) → j < sl
     → getD U (s + j) 0 ≡ getD O (s + j) 0
 laid-apart O U d D X v L s sl j a h =
@@ -40,7 +40,7 @@ laid-apart O U d D X v L s sl j a h =
 
 module _ (O U : List ℕ) (d : ℕ) (D B : List ℕ) (rd : Rising D) (rb : Rising B) (w : ℕ) (L : Laid O U d D (xorMerge D B) w)
     (i j v : ℕ) (e : w ≡ suc v) (C : Cut D B i j v) where
-  -- the number at v stays away
+  -- the sum's number v is not written: its place is still wanted
   pub laid-keep : v < length D → v ≤ i → Laid O U d D (xorMerge D B) v
   laid-keep a b = record {
     same = L .same;
@@ -56,7 +56,7 @@ module _ (O U : List ℕ) (d : ℕ) (D B : List ℕ) (rd : Rising D) (rb : Risin
     old-below = L .old-below;
   }
 
-  -- the number at v goes to its place
+  -- the sum's number v is written
   pub laid-store : (y : ℕ) → v < length (xorMerge D B) → getD (xorMerge D B) v 0 ≡ y → min (i + 1) (length D) ≤ v → (i < length D → y ≤ getD D i 0)
       → d + v < length U → Laid O (set U (d + v) y) d D (xorMerge D B) v
   laid-store y a x b c f = record {
@@ -91,7 +91,7 @@ module _ (O U : List ℕ) (d : ℕ) (D B : List ℕ) (rd : Rising D) (rb : Risin
           (λ o. let u : i ≡ q = omega arith in let r : y ≤ getD D q 0 = rw (← u) (c (omega arith)) in omega (arith, z))
           (lt-or-le i q)
 
--- the pass under way: i and j numbers are left, the sum is laid from w on, and b is the first place that may be written next
+-- the downward pass's invariant: D and B are read down to i and j, the sum is laid down to w, and no place below b may be written
 pub record Up (O U : List ℕ) (d dl s sl n i j w b : ℕ) : Type 0 where
   pub b-is : b ≡ min (i + 1) dl
   pub i-le : i ≤ dl
@@ -137,7 +137,7 @@ module _ (O : List ℕ) (d dl s sl n : ℕ) (P : CanLay O d dl s sl n) where
   }
 
   module _ (U : List ℕ) (i j w b : ℕ) (H : Up O U d dl s sl n i j w b) where
-    -- the two numbers that are read
+    -- what the code reads at the cuts
     pub up-d : (h : ℕ) → h < i → getD U (d + h) 0 ≡ getD (part O d dl) h 0
     up-d h l =
         ⊎-elim (λ o. H .laid .old-low h o)
@@ -205,7 +205,7 @@ module _ (O : List ℕ) (d dl s sl n : ℕ) (P : CanLay O d dl s sl n) where
         pub up-d-lay : (U′ : List ℕ) → U′ ≡ pick (leb i v) (set U (d + v) (getD U (d + h) 0)) U → Up O U′ d dl s sl n h j v i
         up-d-lay U′ q = by-test (leb i v) (λ t. rw (q, t) (up-d-store (leb-true i v t))) (λ f. rw (q, f) (up-d-keep (leb-false i v f)))
 
-    -- a number of the second row comes next
+    -- the larger of the two is the source's
     pub low-none : (g : ℕ) → i ≤ 0 → (k : ℕ) → k < i → getD (part O d dl) k 0 < getD (part O s sl) g 0
     low-none g h k l = absurd (omega arith)
 
@@ -252,7 +252,7 @@ module _ (O : List ℕ) (d dl s sl n : ℕ) (P : CanLay O d dl s sl n) where
         pub up-s-lay : (U′ : List ℕ) → U′ ≡ pick (leb b v) (set U (d + v) (getD U (s + g) 0)) U → Up O U′ d dl s sl n i g v b
         up-s-lay U′ q = by-test (leb b v) (λ t. rw (q, t) (up-s-store (leb-true b v t))) (λ f. rw (q, f) (up-s-keep (leb-false b v f)))
 
-    -- the second row is done with: what is left stands where it was
+    -- with the source used up, the rest of D stands where the sum wants it
     pub up-end : j ≤ 0 → Halfway O U d dl s sl n
     up-end z =
         let j0 : j ≡ 0 = omega arith in

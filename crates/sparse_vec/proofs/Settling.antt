@@ -21,7 +21,7 @@ use Rattle.sparse_vec.proofs.Steps.{at-lt, at-gt, at-right, by-tests}
 use Rattle.sparse_vec.proofs.Cuts.{Cut, cut-start, above-d, next-is, cut-lt, cut-gt, cut-eq, cut-left, cut-right}
 use Rattle.sparse_vec.proofs.Laying.{laid-old, laid-apart}
 
--- the pass under way, for one list O that T was halfway of: the sum stands up to w, and from there on all is as in T
+-- the upward pass's invariant, told of one list O that the downward pass started from: places before w hold the sum, the others what T held
 pub record Way (O T U : List ℕ) (d dl s sl n i j w : ℕ) : Type 0 where
   pub same : length U ≡ length T
   pub cut : Cut (part O d dl) (part O s sl) i j w
@@ -64,7 +64,7 @@ module _ (O T : List ℕ) (d dl s sl n : ℕ) (G : Halfway O T d dl s sl n) wher
         ∙ laid-old O T d (part O d dl) (part O s sl) (G .can .rise-d) (G .can .rise-s) 0 (G .laid) i j w (H .cut) i (omega arith) (omega (arith, d-long)) l
         ∙ sym (part-at O d dl i h)
 
-    -- y goes to the place w
+    -- the turn stores y as the sum's number w
     way-push : (y i′ j′ : ℕ) → Cut (part O d dl) (part O s sl) i′ j′ (w + 1) → getD (xorMerge (part O d dl) (part O s sl)) w 0 ≡ y → Way O T (set U (d + w) y) d dl s sl n i′ j′ (w + 1)
     way-push y i′ j′ c e = record {
       same = simp length-set (H .same);
@@ -78,7 +78,7 @@ module _ (O T : List ℕ) (d dl s sl n : ℕ) (G : Halfway O T d dl s sl n) wher
       below = λ m l. getD-set-other U (d + w) m y 0 (λ q. omega arith) ∙ H .below m l;
     }
 
-    -- the number at w stands there already
+    -- the downward pass laid the sum's number w
     way-pass : (i′ j′ : ℕ) → Cut (part O d dl) (part O s sl) i′ j′ (w + 1) → getD U (d + w) 0 ≡ getD (xorMerge (part O d dl) (part O s sl)) w 0 → Way O T U d dl s sl n i′ j′ (w + 1)
     way-pass i′ j′ c e = record {
       same = H .same;
@@ -88,7 +88,7 @@ module _ (O T : List ℕ) (d dl s sl n : ℕ) (G : Halfway O T d dl s sl n) wher
       below = H .below;
     }
 
-    -- two equal numbers go
+    -- equal numbers cancel, and nothing is stored
     way-drop : (i′ j′ : ℕ) → Cut (part O d dl) (part O s sl) i′ j′ w → Way O T U d dl s sl n i′ j′ w
     way-drop i′ j′ c = record { same = H .same; cut = c; done = H .done; kept = H .kept; below = H .below }
 
@@ -140,7 +140,7 @@ module _ (O T : List ℕ) (d dl s sl n : ℕ) (G : Halfway O T d dl s sl n) wher
     pub right-in : dl ≤ i → j < sl → w < n
     right-in p q = omega (arith, c-right p q .w-le, n-long)
 
-    -- where the sum runs ahead of the row, a number of it that is no larger than the row's last one before it stands there already
+    -- while the sum is ahead of D, its number w has been laid if it does not exceed D's number before it
     ahead : (p : ℕ) → i < w → w ≤ p → p < n → (k : ℕ) → k < p → (k < dl → getD (xorMerge (part O d dl) (part O s sl)) p 0 ≤ getD (part O d dl) k 0) → getD U (d + p) 0 ≡ getD (xorMerge (part O d dl) (part O s sl)) p 0
     ahead zero a b c k l f = absurd (omega arith)
     ahead (suc q) a b c k l f =
@@ -223,7 +223,7 @@ module _ (O T : List ℕ) (d dl s sl n : ℕ) (G : Halfway O T d dl s sl n) wher
           (λ e. rw i0 (way-pass-s (sym ez ∙ e ∙ ey)))
           (λ e. rw w0 (way-pass-both (omega arith)))
 
-    -- the sum is at its end: what is left cancels
+    -- behind the sum's last number only pairs are left
     pub way-rest : n ≤ w → j < sl → Way O T U d dl s sl n (i + 1) (j + 1) w
     way-rest b q =
         ⊎-elim
@@ -319,7 +319,7 @@ module _ (O T : List ℕ) (d dl s sl n : ℕ) (G : Halfway O T d dl s sl n) wher
               ∙ (rw z at (laid-old O T d (part O d dl) (part O s sl) (G .can .rise-d) (G .can .rise-s) 0 (G .laid) (i + (k - i)) j (w + (k - i)) (cut-on (k - i) (omega arith)) (i + (k - i)) (omega arith) (omega (arith, d-long)) (omega arith)))
               ∙ sym (part-at O d dl k g)
 
--- the pass under way, whatever list T was halfway of
+-- the same invariant for every list that T may come from
 pub record On (T U : List ℕ) (d dl s sl n i j w : ℕ) : Type 0 where
   pub i-le : i ≤ dl
   pub j-le : j ≤ sl

@@ -58,7 +58,7 @@ pub record Merged (S T : List ℕ) (d dl s sl i j n : ℕ) : Type 0 where
 
 -- ---- the two passes where the sum has room, and both rows together need not
 
--- two rows, and room for their sum of n numbers at d, apart from the second
+-- the stretch at d holds the n numbers of the sum of two rows, and the source lies outside of it
 pub record CanLay (slots : List ℕ) (d dl s sl n : ℕ) : Type 0 where
   pub fit-d : d + dl ≤ length slots
   pub fit-n : d + n ≤ length slots

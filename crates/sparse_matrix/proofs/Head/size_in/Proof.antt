@@ -1,0 +1,11 @@
+-- `sparse_matrix::Head::size_in` meets its contract. Assumes nothing.
+use Rattle.sparse_matrix.proofs.QueryNumbers.{size-is}
+use Rattle.sparse_matrix.proofs.Head.size_in.Statement.{statement}
+use Rattle.sparse_matrix.proofs.Head.size_in.Tie as tie
+
+returns : tie.Need-returns
+returns c = size-is _
+
+pub size-in-spec : {M : Type 1} → statement M
+size-in-spec =
+    tie.close (tie.spec returns)

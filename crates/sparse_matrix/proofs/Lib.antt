@@ -1,0 +1,16 @@
+pub mod QueryPlaces
+pub mod QueryNumbers
+pub mod QueryLists
+pub mod QueryColumn
+pub mod QueryWords
+pub mod Ends
+pub mod Clears
+pub mod Swaps
+pub mod Switches
+pub mod Makes
+pub mod RowChanges
+pub mod Sets
+pub mod Refuses
+pub mod Sums
+pub mod Adds
+pub mod Calls

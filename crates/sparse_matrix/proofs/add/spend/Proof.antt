@@ -1,0 +1,51 @@
+-- `sparse_matrix::add::spend` meets its contract. Assumes nothing.
+use borrow.Author.Tests.{not-true, not-false}
+use Rattle.sparse_matrix.proofs.Sums.{no-rows, no-marks, marked}
+use native.Mathlib.Omega.{arith}
+use borrow.Author.Needs.{needs}
+use Rattle.sparse_matrix.proofs.add.spend.Statement.{statement}
+use Rattle.sparse_matrix.proofs.add.spend.Tie as tie
+use Rattle.sparse_matrix.proofs.add.spend.Reads as reads
+use Rattle.sparse_matrix.proofs.add.spend.Lts as lts
+use Rattle.sparse_matrix.proofs.add.place.Reads as place-reads
+
+returns : tie.Need-returns
+returns c = no-rows _ _ _ _ _ _ (c .before .before .before .pre) (not-true _ (c .if1 .taken))
+
+returns-2 : tie.Need-returns-2
+returns-2 c = no-marks _ _ _ _ _ _ (c .before .before .before .before .pre) (not-false _ (c .before .if1 .left)) (not-true _ (c .if2 .taken))
+
+mul-at : tie.Need-mul-at
+mul-at c = omega (arith, c .before .before .before .before .pre .place (not-false _ (c .before .if1 .left)) (not-false _ (c .if2 .left)))
+
+mul-place : tie.Need-mul-place
+mul-place c = omega (arith, c .before .before .before .before .pre .place (not-false _ (c .before .if1 .left)) (not-false _ (c .if2 .left)))
+
+shared-slice-read-place : tie.Need-shared-slice-read-place
+shared-slice-read-place c = c .before .before .before .before .before .pre .place (not-false _ (c .before .before .if1 .left)) (not-false _ (c .before .if2 .left))
+
+place-requires : tie.Need-place-requires
+place-requires c κs = search needs
+
+slice-write-marks : tie.Need-slice-write-marks
+slice-write-marks c = rw (c .place .ensures) (c .before .before .before .before .before .before .pre .mark (not-false _ (c .before .before .before .if1 .left)) (not-false _ (c .before .before .if2 .left)))
+
+same-length : tie.Need-same-length
+same-length c = search needs
+
+returns-3 : tie.Need-returns-3
+returns-3 c = marked _ _ _ _ _ _ (c .before .before .before .before .before .before .pre) (not-false _ (c .before .before .before .if1 .left)) (not-false _ (c .before .before .if2 .left)) _ (c .place .ensures)
+
+pub spend-spec : {M : Type 1} → statement M
+spend-spec =
+    tie.close
+    (tie.spec
+    returns
+    returns-2
+    mul-at
+    mul-place
+    shared-slice-read-place
+    place-requires
+    slice-write-marks
+    same-length
+    returns-3)

@@ -1,0 +1,56 @@
+-- `sparse_matrix::places::row` meets its contract. Assumes nothing.
+use mathlib.Core.Path.{refl}
+use native.Mathlib.Omega.{arith}
+use borrow.Author.Needs.{needs}
+use Rattle.sparse_matrix.proofs.QueryPlaces.{row-is, row-room}
+use Rattle.sparse_matrix.proofs.places.row.Statement.{statement}
+use Rattle.sparse_matrix.proofs.places.row.Tie as tie
+
+row-place-requires : tie.Need-row-place-requires
+row-place-requires c κs = search needs
+
+mul-at : tie.Need-mul-at
+mul-at c = omega (arith, row-room _ _ _ _ _ _ (c .before .before .before .pre) (c .row-place .ensures) refl)
+
+mul-length-of : tie.Need-mul-length-of
+mul-length-of c = search needs
+
+shared-slice-read-length-of : tie.Need-shared-slice-read-length-of
+shared-slice-read-length-of c = search needs
+
+length-of-requires : tie.Need-length-of-requires
+length-of-requires c κs = search needs
+
+add-result : tie.Need-add-result
+add-result c = omega (arith, row-room _ _ _ _ _ _ (c .before .before .before .before .before .pre) (c .before .before .row-place .ensures) (c .length-of .ensures))
+
+mul-result : tie.Need-mul-result
+mul-result c = omega (arith, row-room _ _ _ _ _ _ (c .before .before .before .before .before .pre) (c .before .before .row-place .ensures) (c .length-of .ensures))
+
+sub-result : tie.Need-sub-result
+sub-result c = search needs
+
+part-result-start : tie.Need-part-result-start
+part-result-start c = search needs
+
+part-result-end : tie.Need-part-result-end
+part-result-end c = omega (arith, row-room _ _ _ _ _ _ (c .before .before .before .before .before .pre) (c .before .before .row-place .ensures) (c .length-of .ensures))
+
+returns : tie.Need-returns
+returns c = row-is _ _ _ _ _ _ (c .before .before .before .row-place .ensures) (c .before .length-of .ensures)
+
+pub row-spec : {M : Type 1} → statement M
+row-spec =
+    tie.close
+    (tie.spec
+    row-place-requires
+    mul-at
+    mul-length-of
+    shared-slice-read-length-of
+    length-of-requires
+    add-result
+    mul-result
+    sub-result
+    part-result-start
+    part-result-end
+    returns)

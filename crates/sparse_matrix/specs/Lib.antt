@@ -1,0 +1,6 @@
+pub mod Lent
+pub mod Told
+pub mod Query
+pub mod Changes
+pub mod Refused
+pub mod Added

@@ -1,0 +1,86 @@
+// The lists of a row: ITER and TAILONES, on a store that is known to be well-formed. The list is counted first: where it is longer than the answer
+// buffer nothing is written.
+use crate::Head;
+use crate::Listed;
+use crate::places;
+use crate::refusals;
+use permutation::LogicalRow;
+ghost use mathlib.Core.Path.{_≡_};
+ghost use Rattle.table.specs.declared.Op.the-variants.{Iter, TailOnes};
+ghost use Rattle.model.specs.WellFormed.{WellFormed};
+ghost use Rattle.model.specs.Step.{inner, resultOf};
+ghost use Rattle.sparse_matrix.specs.Lent.{storeOf, fullOf};
+ghost use Rattle.sparse_matrix.specs.Told.{listTold};
+
+impl Head {
+    // ITER: the sparse columns a to b-1 that hold one in row r, by rising home number: the order of the row's list.
+    pub fn get_row_iter_in(
+        self,
+        slots: &[u16],
+        counts: &[u16],
+        row_homes: &[u32],
+        row_logicals: &[u32],
+        column_homes: &[u16],
+        column_logicals: &[u16],
+        marks: &[u8],
+        starts: &[u64],
+        entries: &[u32],
+        words: &[u64],
+        answers: &mut [u32],
+        r: u32,
+        a: u32,
+        b: u32,
+    ) -> Listed
+        requires { ⌜ WellFormed (storeOf self (now slots) (now counts) (now «row_homes») (now «row_logicals») (now «column_homes») (now «column_logicals») (now marks) (now starts) (now entries) (now words)) ⌝ }
+        ensures { λ x. ⌜ listTold (storeOf self (now (slots .entry)) (now (counts .entry)) (now («row_homes» .entry)) (now («row_logicals» .entry)) (now («column_homes» .entry)) (now («column_logicals» .entry)) (now (marks .entry)) (now (starts .entry)) (now (entries .entry)) (now (words .entry))) x (now (answers .exit)) ≡ resultOf (fullOf (storeOf self (now (slots .entry)) (now (counts .entry)) (now («row_homes» .entry)) (now («row_logicals» .entry)) (now («column_homes» .entry)) (now («column_logicals» .entry)) (now (marks .entry)) (now (starts .entry)) (now (entries .entry)) (now (words .entry))) (now (answers .entry))) (inner (Iter (record { r = r; a = a; b = b })) (fullOf (storeOf self (now (slots .entry)) (now (counts .entry)) (now («row_homes» .entry)) (now («row_logicals» .entry)) (now («column_homes» .entry)) (now («column_logicals» .entry)) (now (marks .entry)) (now (starts .entry)) (now (entries .entry)) (now (words .entry))) (now (answers .entry)))) ⌝ }
+    {
+        if self.h <= r {
+            return Listed::No(refusals::ROW);
+        }
+        if self.w - self.n < b {
+            return Listed::No(refusals::SIDE);
+        }
+        let y = permutation::home_row(row_homes, LogicalRow(r));
+        let row = places::row(slots, counts, self.slots, y);
+        if answers.len() < sparse_vec::count_in(row, column_logicals, a, b) {
+            return Listed::No(refusals::ANSWER);
+        }
+        let n = sparse_vec::walk(row, column_logicals, a, b, answers);
+        Listed::Count(n as u32)
+    }
+
+    // TAILONES: the tail columns that hold one in row r, rising. The caller names the first of them, a.
+    pub fn query_non_zero_columns_in(
+        self,
+        slots: &[u16],
+        counts: &[u16],
+        row_homes: &[u32],
+        row_logicals: &[u32],
+        column_homes: &[u16],
+        column_logicals: &[u16],
+        marks: &[u8],
+        starts: &[u64],
+        entries: &[u32],
+        words: &[u64],
+        answers: &mut [u32],
+        r: u32,
+        a: u32,
+    ) -> Listed
+        requires { ⌜ WellFormed (storeOf self (now slots) (now counts) (now «row_homes») (now «row_logicals») (now «column_homes») (now «column_logicals») (now marks) (now starts) (now entries) (now words)) ⌝ }
+        ensures { λ x. ⌜ listTold (storeOf self (now (slots .entry)) (now (counts .entry)) (now («row_homes» .entry)) (now («row_logicals» .entry)) (now («column_homes» .entry)) (now («column_logicals» .entry)) (now (marks .entry)) (now (starts .entry)) (now (entries .entry)) (now (words .entry))) x (now (answers .exit)) ≡ resultOf (fullOf (storeOf self (now (slots .entry)) (now (counts .entry)) (now («row_homes» .entry)) (now («row_logicals» .entry)) (now («column_homes» .entry)) (now («column_logicals» .entry)) (now (marks .entry)) (now (starts .entry)) (now (entries .entry)) (now (words .entry))) (now (answers .entry))) (inner (TailOnes (record { r = r; a = a })) (fullOf (storeOf self (now (slots .entry)) (now (counts .entry)) (now («row_homes» .entry)) (now («row_logicals» .entry)) (now («column_homes» .entry)) (now («column_logicals» .entry)) (now (marks .entry)) (now (starts .entry)) (now (entries .entry)) (now (words .entry))) (now (answers .entry)))) ⌝ }
+    {
+        if self.h <= r {
+            return Listed::No(refusals::ROW);
+        }
+        let edge = self.w - self.n;
+        if a != edge || self.n == 0 {
+            return Listed::No(refusals::SIDE);
+        }
+        let y = places::row_place(permutation::home_row(row_homes, LogicalRow(r)));
+        if answers.len() < tail::count(words, self.n, y) {
+            return Listed::No(refusals::ANSWER);
+        }
+        let n = tail::ones(words, self.n, y, edge, answers);
+        Listed::Count(n as u32)
+    }
+}

@@ -1,0 +1,106 @@
+// SET: a one put into a row's list or taken out of it, or a bit of the tail.
+use crate::Changed;
+use crate::Head;
+use crate::places;
+use crate::refusals;
+use permutation::LogicalRow;
+ghost use mathlib.Core.Path.{_≡_};
+ghost use mathlib.Core.List.{[]};
+ghost use Prim.Native.Nat.{_*_, _≤_};
+ghost use lib.Dec.{leb};
+ghost use lib.ListN.{length, set};
+ghost use Rattle.laws.specs.Parts.{part, rowOf};
+ghost use Rattle.sparse_vec.specs.Row.{putRow};
+ghost use Rattle.table.specs.declared.Op.the-variants.{Set};
+ghost use Rattle.model.specs.WellFormed.{WellFormed};
+ghost use Rattle.model.specs.Change.{setRow};
+ghost use Rattle.model.specs.Step.{inner, resultOf};
+ghost use Rattle.sparse_matrix.specs.Lent.{storeOf, fullOf};
+ghost use Rattle.sparse_matrix.specs.Told.{changedTold};
+ghost use Rattle.sparse_matrix.specs.Changes.{place, RowKept, CanSet};
+
+// Whether the row has room for what it holds after home column `z` is put in, or taken out where `v` is false.
+fn has_room(slots: &[u16], counts: &[u16], y: usize, k: usize, z: u16, v: bool) -> bool
+    requires { ⌜ RowKept (now slots) (now counts) y k ⌝ }
+    ensures { λ r. ⌜ r ≡ leb (length (setRow v z (rowOf (now (slots .entry)) (now (counts .entry)) k y))) k ⌝ }
+{
+    if !v {
+        return true;
+    }
+    let len = counts[y] as usize;
+    if len < k {
+        return true;
+    }
+    let at = y * k;
+    sparse_vec::get(&slots[at..at + len], z)
+}
+
+// Puts `z` into the list at `at`, or takes it out, and answers the list's length.
+fn change_list(slots: &mut [u16], at: usize, len: usize, k: usize, z: u16, v: bool) -> usize
+    requires { ⌜ CanSet (now slots) at len k z v ⌝ }
+    ensures { λ r. ⌜ (r ≡ length (setRow v z (part (now (slots .entry)) at len))) × (now (slots .exit) ≡ putRow (now (slots .entry)) at k (setRow v z (part (now (slots .entry)) at len))) ⌝ }
+{
+    if v {
+        sparse_vec::insert(slots, at, len, k, z)
+    } else {
+        sparse_vec::remove(slots, at, len, k, z)
+    }
+}
+
+// The same for home row `y`, with its count.
+fn change_row(slots: &mut [u16], counts: &mut [u16], y: usize, k: usize, z: u16, v: bool)
+    requires { ⌜ RowKept (now slots) (now counts) y k ⌝ }
+    requires { ⌜ length (setRow v z (rowOf (now slots) (now counts) k y)) ≤ k ⌝ }
+    ensures { λ _. ⌜ (now (slots .exit) ≡ putRow (now (slots .entry)) (y * k) k (setRow v z (rowOf (now (slots .entry)) (now (counts .entry)) k y))) × (now (counts .exit) ≡ set (now (counts .entry)) y (length (setRow v z (rowOf (now (slots .entry)) (now (counts .entry)) k y)))) ⌝ }
+{
+    let len = counts[y] as usize;
+    let more = change_list(slots, y * k, len, k, z, v);
+    counts[y] = more as u16;
+}
+
+impl Head {
+    // SET: cell `r`, `c` becomes one, or zero where `v` is 0. Refused with 4, 5, 9 or 12; a tail column only with 4 or 5.
+    pub fn set_in(
+        self,
+        slots: &mut [u16],
+        counts: &mut [u16],
+        row_homes: &[u32],
+        row_logicals: &[u32],
+        column_homes: &[u16],
+        column_logicals: &[u16],
+        marks: &[u8],
+        starts: &[u64],
+        entries: &[u32],
+        words: &mut [u64],
+        r: u32,
+        c: u32,
+        v: u8,
+    ) -> Changed
+        requires { ⌜ WellFormed (storeOf self (now slots) (now counts) (now «row_homes») (now «row_logicals») (now «column_homes») (now «column_logicals») (now marks) (now starts) (now entries) (now words)) ⌝ }
+        ensures { λ x. ⌜ changedTold self x (λ d. storeOf d (now (slots .exit)) (now (counts .exit)) (now («row_homes» .entry)) (now («row_logicals» .entry)) (now («column_homes» .entry)) (now («column_logicals» .entry)) (now (marks .entry)) (now (starts .entry)) (now (entries .entry)) (now (words .exit))) ≡ resultOf (fullOf (storeOf self (now (slots .entry)) (now (counts .entry)) (now («row_homes» .entry)) (now («row_logicals» .entry)) (now («column_homes» .entry)) (now («column_logicals» .entry)) (now (marks .entry)) (now (starts .entry)) (now (entries .entry)) (now (words .entry))) []) (inner (Set (place r c v)) (fullOf (storeOf self (now (slots .entry)) (now (counts .entry)) (now («row_homes» .entry)) (now («row_logicals» .entry)) (now («column_homes» .entry)) (now («column_logicals» .entry)) (now (marks .entry)) (now (starts .entry)) (now (entries .entry)) (now (words .entry))) [])) ⌝ }
+    {
+        if self.h <= r {
+            return Changed::No(refusals::ROW);
+        }
+        if self.w <= c {
+            return Changed::No(refusals::COLUMN);
+        }
+        let home = permutation::home_row(row_homes, LogicalRow(r));
+        let y = home.0 as usize;
+        let edge = self.w - self.n;
+        if edge <= c {
+            tail::put(words, self.n, y, c - edge, v != 0);
+            return Changed::Done(self);
+        }
+        if self.on {
+            return Changed::No(refusals::PHASE);
+        }
+        let k = self.slots as usize;
+        let column = permutation::home_column(column_homes, places::column(c));
+        if !has_room(slots, counts, y, k, column.0, v != 0) {
+            return Changed::No(refusals::SLOTS);
+        }
+        change_row(slots, counts, y, k, column.0, v != 0);
+        Changed::Done(self)
+    }
+}

@@ -1,0 +1,72 @@
+// ON and OFF: the index is built anew, or dropped. Of its buffers only what was used is written: the rest is zero already.
+use crate::Changed;
+use crate::Head;
+use crate::refusals;
+ghost use mathlib.Core.Path.{_≡_};
+ghost use mathlib.Core.List.{[]};
+ghost use Rattle.table.specs.declared.Op.the-variants.{On, Off};
+ghost use Rattle.model.specs.WellFormed.{WellFormed};
+ghost use Rattle.model.specs.Step.{inner, resultOf};
+ghost use Rattle.sparse_matrix.specs.Lent.{storeOf, fullOf};
+ghost use Rattle.sparse_matrix.specs.Told.{changedTold};
+
+impl Head {
+    // ON: "index built anew, all marks exact, also when on", or refused with 14 where there are too few entries.
+    pub fn enable_column_access_acceleration_in(
+        mut self,
+        slots: &[u16],
+        counts: &[u16],
+        row_homes: &[u32],
+        row_logicals: &[u32],
+        column_homes: &[u16],
+        column_logicals: &[u16],
+        marks: &mut [u8],
+        starts: &mut [u64],
+        entries: &mut [u32],
+        words: &[u64],
+    ) -> Changed
+        requires { ⌜ WellFormed (storeOf self (now slots) (now counts) (now «row_homes») (now «row_logicals») (now «column_homes») (now «column_logicals») (now marks) (now starts) (now entries) (now words)) ⌝ }
+        ensures { λ x. ⌜ changedTold self x (λ d. storeOf d (now (slots .entry)) (now (counts .entry)) (now («row_homes» .entry)) (now («row_logicals» .entry)) (now («column_homes» .entry)) (now («column_logicals» .entry)) (now (marks .exit)) (now (starts .exit)) (now (entries .exit)) (now (words .entry))) ≡ resultOf (fullOf (storeOf self (now (slots .entry)) (now (counts .entry)) (now («row_homes» .entry)) (now («row_logicals» .entry)) (now («column_homes» .entry)) (now («column_logicals» .entry)) (now (marks .entry)) (now (starts .entry)) (now (entries .entry)) (now (words .entry))) []) (inner On (fullOf (storeOf self (now (slots .entry)) (now (counts .entry)) (now («row_homes» .entry)) (now («row_logicals» .entry)) (now («column_homes» .entry)) (now («column_logicals» .entry)) (now (marks .entry)) (now (starts .entry)) (now (entries .entry)) (now (words .entry))) [])) ⌝ }
+    {
+        let h = self.h as usize;
+        let ones = arraymap::total(counts, h);
+        if entries.len() < ones {
+            return Changed::No(refusals::ENTRIES);
+        }
+        let k = self.slots as usize;
+        let m = self.made as usize;
+        // zero where the index was off
+        let used = starts[m] as usize;
+        lent::clear_u8(marks, 0, m);
+        arraymap::build(slots, counts, h, k, m, used, starts, entries);
+        self.on = true;
+        Changed::Done(self)
+    }
+
+    // OFF: "index dropped, marks exact, also when off". Nothing refuses it.
+    pub fn disable_column_access_acceleration_in(
+        mut self,
+        slots: &[u16],
+        counts: &[u16],
+        row_homes: &[u32],
+        row_logicals: &[u32],
+        column_homes: &[u16],
+        column_logicals: &[u16],
+        marks: &mut [u8],
+        starts: &mut [u64],
+        entries: &mut [u32],
+        words: &[u64],
+    ) -> Changed
+        requires { ⌜ WellFormed (storeOf self (now slots) (now counts) (now «row_homes») (now «row_logicals») (now «column_homes») (now «column_logicals») (now marks) (now starts) (now entries) (now words)) ⌝ }
+        ensures { λ x. ⌜ changedTold self x (λ d. storeOf d (now (slots .entry)) (now (counts .entry)) (now («row_homes» .entry)) (now («row_logicals» .entry)) (now («column_homes» .entry)) (now («column_logicals» .entry)) (now (marks .exit)) (now (starts .exit)) (now (entries .exit)) (now (words .entry))) ≡ resultOf (fullOf (storeOf self (now (slots .entry)) (now (counts .entry)) (now («row_homes» .entry)) (now («row_logicals» .entry)) (now («column_homes» .entry)) (now («column_logicals» .entry)) (now (marks .entry)) (now (starts .entry)) (now (entries .entry)) (now (words .entry))) []) (inner Off (fullOf (storeOf self (now (slots .entry)) (now (counts .entry)) (now («row_homes» .entry)) (now («row_logicals» .entry)) (now («column_homes» .entry)) (now («column_logicals» .entry)) (now (marks .entry)) (now (starts .entry)) (now (entries .entry)) (now (words .entry))) [])) ⌝ }
+    {
+        let made = self.made as usize;
+        // zero where the index was off
+        let used = starts[made] as usize;
+        lent::clear_u8(marks, 0, made);
+        lent::clear_u32(entries, 0, used);
+        lent::clear_u64(starts, 0, made + 1);
+        self.on = false;
+        Changed::Done(self)
+    }
+}
