@@ -2,28 +2,28 @@
 use mathlib.Core.Path.{_≡_, refl, sym, ap, _∙_}
 use mathlib.Core.Bool.{Bool, true, false, not, _&&_, _||_}
 use mathlib.Core.List.{List, [], _∷_}
-use Prim.Native.Nat.{ℕ, suc, _+_, _-_, _*_, _≤_, _<_}
+use Prim.Native.Nat.{ℕ, _*_, _≤_, _<_}
 use native.Mathlib.Omega.{arith}
 use lib.Dec.{leb, ltb, eqb}
 use lib.ListN.{length, getD, set}
-use borrow.Author.Tests.{lt-leb, le-leb, le-ltb, eqb-true, eqb-false, eq-eqb, ne-eqb, leb-true, leb-false, ltb-true, ltb-false, lt-ltb}
+use borrow.Author.Tests.{lt-leb, le-leb, le-ltb, eqb-true, eq-eqb, ne-eqb, leb-true, leb-false, lt-ltb}
 use Rattle.laws.specs.Plain.{pick}
-use Rattle.laws.specs.Rows.{member, xorMerge}
+use Rattle.laws.specs.Rows.{xorMerge}
 use Rattle.laws.specs.Parts.{rowOf}
 use Rattle.laws.specs.Words.{wordsFor}
-use Rattle.laws.proofs.Bools.{by-test, and-false}
+use Rattle.laws.proofs.Bools.{by-test}
 use Rattle.laws.proofs.Maps.{one-to-one}
-use Rattle.sparse_vec.specs.Row.{HasRow, CanAdd, putRow}
+use Rattle.sparse_vec.specs.Row.{HasRow, putRow}
 use Rattle.tail.specs.Tail.{TwoRows, xored}
 use Rattle.table.specs.declared.Addition.{Addition}
 use Rattle.table.specs.declared.Op.the-variants.{Add}
 use Rattle.table.specs.Table.{rowCount, sparseOnes}
 use Rattle.table.specs.Step.{after, notSingle}
-use Rattle.table.specs.Refusals.{Verdict, refused, done}
-use Rattle.table.specs.Run.{ok, nay}
+use Rattle.table.specs.Refusals.{refused, done}
+use Rattle.table.specs.Run.{ok}
 use Rattle.model.specs.Store.{Store, Full, edge, row, homeRow, tableOf}
 use Rattle.model.specs.WellFormed.{WellFormed}
-use Rattle.model.specs.Change.{withMarks, withRow, withWords, addSparse, spend, addTail, addHomes, addRows}
+use Rattle.model.specs.Change.{addSparse, spend, addTail, addHomes}
 use Rattle.model.specs.Step.{Result, inner, resultOf}
 use Rattle.model.proofs.Rows.{rows-apart, frame-of, row-fits, row-length, words-fit}
 use Rattle.model.proofs.Counts.{single-means, add-count, add-count-tail}

@@ -13,4 +13,5 @@ pub mod Sets
 pub mod Refuses
 pub mod Sums
 pub mod Adds
+pub mod Freezes
 pub mod Calls

@@ -1,6 +1,6 @@
 -- The number of a refusal, 0 for none: where it is 0 every check passes and the call is done, else it is what the caller is told. Assumes nothing.
-use mathlib.Core.Path.{_≡_, refl, sym, ap, _∙_}
-use mathlib.Core.Bool.{true, false, true≢false, false≢true}
+use mathlib.Core.Path.{_≡_, refl, ap}
+use mathlib.Core.Bool.{true, false}
 use mathlib.Core.List.{List, [], _∷_}
 use Prim.Native.Nat.{ℕ, _<_}
 use native.Mathlib.Omega.{arith}
@@ -8,7 +8,7 @@ use Rattle.table.specs.declared.Op.{Op}
 use Rattle.table.specs.Refusals.{Refusal, DAMAGED, SIZE, BUFFERS, ROW, COLUMN, SIDE, SAME, SHRINK, PHASE, SINGLE, SPENT, SLOTS, WORDS, ENTRIES, ANSWER, RECORD, CUT, number, Check, _when_, Verdict, refused, done, outcome}
 use Rattle.table.specs.Step.{checks, answer}
 use Rattle.table.specs.Room.{roomChecks, allChecks, passes}
-use Rattle.table.specs.Run.{ok, nay, kept}
+use Rattle.table.specs.Run.{ok, nay}
 use Rattle.table.proofs.Checks.{pass}
 use Rattle.model.specs.Store.{Full, tableOf, heldOf}
 use Rattle.model.specs.Step.{Result, fullAfter, inner, resultOf}

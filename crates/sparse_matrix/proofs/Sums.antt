@@ -2,13 +2,13 @@
 use mathlib.Core.Path.{_≡_, refl, sym, ap, _∙_}
 use mathlib.Core.Bool.{Bool, true, false, not, _&&_}
 use mathlib.Core.List.{List, [], _∷_}
-use Prim.Native.Nat.{ℕ, zero, suc, _+_, _*_, _≤_, _<_}
+use Prim.Native.Nat.{ℕ, _+_, _*_, _≤_, _<_}
 use native.Mathlib.Omega.{arith}
 use lib.Dec.{leb, eqb}
 use lib.ListN.{length, getD, set}
-use borrow.Author.Tests.{le-leb, leb-true, eq-eqb, ne-eqb}
+use borrow.Author.Tests.{le-leb, eq-eqb, ne-eqb}
 use Rattle.laws.specs.Plain.{pick}
-use Rattle.laws.specs.Rows.{member, Rising, xorMerge}
+use Rattle.laws.specs.Rows.{member, Rising}
 use Rattle.laws.specs.Parts.{part, rowOf}
 use Rattle.laws.proofs.Parts.{part-length, part-at}
 use Rattle.sparse_vec.specs.Row.{CanAdd, rowSum, sumIn, addedTo, putRow}

@@ -4,3 +4,4 @@ pub mod Query
 pub mod Changes
 pub mod Refused
 pub mod Added
+pub mod Frozen

@@ -1,5 +1,4 @@
 -- Which number refuses a call, where the code asks for that before it writes. Assumes nothing.
-use mathlib.Core.List.{List}
 use Prim.Native.Nat.{ℕ}
 use Rattle.table.specs.Refusals.{Verdict, refused, done}
 

@@ -293,4 +293,50 @@ impl Head {
             start,
         )
     }
+
+    // FREEZE: column c, the last sparse one, joins the tail.
+    pub fn hint_column_dense_and_frozen(
+        self,
+        slots: &mut [u16],
+        counts: &mut [u16],
+        row_homes: &[u32],
+        row_logicals: &[u32],
+        column_homes: &[u16],
+        column_logicals: &[u16],
+        marks: &[u8],
+        starts: &[u64],
+        entries: &[u32],
+        words: &mut [u64],
+        c: u32,
+    ) -> Changed
+        ensures { λ x. ⌜ changedTold self x (λ d. storeOf d (now (slots .exit)) (now (counts .exit)) (now («row_homes» .entry)) (now («row_logicals» .entry)) (now («column_homes» .entry)) (now («column_logicals» .entry)) (now (marks .entry)) (now (starts .entry)) (now (entries .entry)) (now (words .exit))) ≡ resultOf (fullOf (storeOf self (now (slots .entry)) (now (counts .entry)) (now («row_homes» .entry)) (now («row_logicals» .entry)) (now («column_homes» .entry)) (now («column_logicals» .entry)) (now (marks .entry)) (now (starts .entry)) (now (entries .entry)) (now (words .entry))) []) (step (op.Freeze (record { c = c })) (fullOf (storeOf self (now (slots .entry)) (now (counts .entry)) (now («row_homes» .entry)) (now («row_logicals» .entry)) (now («column_homes» .entry)) (now («column_logicals» .entry)) (now (marks .entry)) (now (starts .entry)) (now (entries .entry)) (now (words .entry))) [])) ⌝ }
+    {
+        if !self.well_formed(
+            slots,
+            counts,
+            row_homes,
+            row_logicals,
+            column_homes,
+            column_logicals,
+            marks,
+            starts,
+            entries,
+            words,
+        ) {
+            return Changed::No(refusals::DAMAGED);
+        }
+        self.hint_column_dense_and_frozen_in(
+            slots,
+            counts,
+            row_homes,
+            row_logicals,
+            column_homes,
+            column_logicals,
+            marks,
+            starts,
+            entries,
+            words,
+            c,
+        )
+    }
 }

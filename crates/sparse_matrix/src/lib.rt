@@ -8,6 +8,7 @@ mod alter;
 mod ask;
 mod checked;
 mod column_list;
+mod freeze;
 mod make;
 mod places;
 mod query;

@@ -21,6 +21,8 @@ pub const SPENT: u32 = 11;
 
 pub const SLOTS: u32 = 12;
 
+pub const WORDS: u32 = 13;
+
 pub const ENTRIES: u32 = 14;
 
 pub const ANSWER: u32 = 15;

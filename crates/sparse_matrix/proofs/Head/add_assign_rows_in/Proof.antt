@@ -1,19 +1,10 @@
 -- `sparse_matrix::Head::add_assign_rows_in` meets its contract. Assumes nothing.
 use mathlib.Core.Path.{refl, sym, _∙_}
+use borrow.Author.Needs.{needs}
 use Rattle.sparse_matrix.proofs.Refuses.{refuses}
 use Rattle.sparse_matrix.proofs.Adds.{home-d, home-s, spend-can, lists-can, tail-can, add-done}
-use native.Mathlib.Omega.{arith}
-use borrow.Author.Needs.{needs}
 use Rattle.sparse_matrix.proofs.Head.add_assign_rows_in.Statement.{statement}
 use Rattle.sparse_matrix.proofs.Head.add_assign_rows_in.Tie as tie
-use Rattle.sparse_matrix.proofs.Head.add_assign_rows_in.Reads as reads
-use Rattle.sparse_matrix.proofs.Head.add_assign_rows_in.Lts as lts
-use Rattle.sparse_matrix.proofs.Head.refuse_add.Reads as refuse-add-reads
-use Rattle.sparse_matrix.proofs.add.add_lists.Reads as add-lists-reads
-use Rattle.sparse_matrix.proofs.add.home.Reads as home-reads
-use Rattle.sparse_matrix.proofs.add.spend.Reads as spend-reads
-use Rattle.tail.proofs.words_for.Reads as words-for-reads
-use Rattle.tail.proofs.xor_rows.Reads as xor-rows-reads
 
 refuse-add-requires : tie.Need-refuse-add-requires
 refuse-add-requires c κs = search needs

@@ -1,6 +1,6 @@
 -- `sparse_matrix::Head::enable_column_access_acceleration_in` meets its contract. Assumes nothing.
 use borrow.Author.Needs.{needs}
-use Rattle.sparse_matrix.proofs.Switches.{last-in, marks-in, can-total, can-build, on-full, on-done}
+use Rattle.sparse_matrix.proofs.Switches.{last-in, can-total, can-build, on-full, on-done}
 use Rattle.sparse_matrix.proofs.Head.enable_column_access_acceleration_in.Statement.{statement}
 use Rattle.sparse_matrix.proofs.Head.enable_column_access_acceleration_in.Tie as tie
 
@@ -36,7 +36,7 @@ slice-read-used : tie.Need-slice-read-used
 slice-read-used c = last-in _ (entered (c .before .before .before .before .before) .pre)
 
 clear-u8-requires : tie.Need-clear-u8-requires
-clear-u8-requires c κs = marks-in _ (entered (c .before .before .before .before .before .before) .pre)
+clear-u8-requires c κs = search needs
 
 build-requires : tie.Need-build-requires
 build-requires c κs = can-build _ (entered (roomy (c .before .before .before .before) .before .before) .pre) _ (roomy (c .before .before .before .before) .before .total .ensures) (roomy (c .before .before .before .before) .if1 .left)

@@ -1,14 +1,8 @@
 -- `sparse_matrix::Head::refuse_add` meets its contract. Assumes nothing.
-use Rattle.sparse_matrix.proofs.Adds.{row-d, row-s, start-side, same-row, tail-start, can-sum, sum-start}
-use native.Mathlib.Omega.{arith}
 use borrow.Author.Needs.{needs}
+use Rattle.sparse_matrix.proofs.Adds.{row-d, row-s, start-side, same-row, tail-start, can-sum, sum-start}
 use Rattle.sparse_matrix.proofs.Head.refuse_add.Statement.{statement}
 use Rattle.sparse_matrix.proofs.Head.refuse_add.Tie as tie
-use Rattle.sparse_matrix.proofs.Head.refuse_add.Reads as reads
-use Rattle.sparse_matrix.proofs.Head.refuse_add.Lts as lts
-use Rattle.sparse_matrix.proofs.add.aside.Reads as aside-reads
-use Rattle.sparse_matrix.proofs.add.home.Reads as home-reads
-use Rattle.sparse_matrix.proofs.add.refuse_sum.Reads as refuse-sum-reads
 
 returns : tie.Need-returns
 returns c = row-d _ (c .before .before .before .before .before .before .before .before .before .before .before .before .pre) _ (c .if1 .taken)

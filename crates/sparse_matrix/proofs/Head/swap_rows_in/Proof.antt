@@ -1,4 +1,5 @@
 -- `sparse_matrix::Head::swap_rows_in` meets its contract. Assumes nothing.
+use native.Mathlib.Omega.{arith}
 use Rattle.sparse_matrix.proofs.Swaps.{maps-can, row-i, row-j, rows-done}
 use Rattle.sparse_matrix.proofs.Head.swap_rows_in.Statement.{statement}
 use Rattle.sparse_matrix.proofs.Head.swap_rows_in.Tie as tie
@@ -21,7 +22,7 @@ returns-2 : tie.Need-returns-2
 returns-2 c = row-j _ _ (c .before .before .if1 .left) (c .if2 .taken)
 
 swap-rows-requires : tie.Need-swap-rows-requires
-swap-rows-requires c κs = maps-can _ _ (entered (within c .before .before .before) .pre .maps .rows) _ _ (within c .before .before .if1 .left) (within c .if2 .left)
+swap-rows-requires c κs = maps-can _ _ (entered (within c .before .before .before) .pre .maps .rows) _ _ (omega arith) (omega arith)
 
 returns-3 : tie.Need-returns-3
 returns-3 c = rows-done _ _ _ _ (swapped c .swap-rows .ensures .0) (swapped c .swap-rows .ensures .1) (within (swapped c .before) .before .before .if1 .left) (within (swapped c .before) .if2 .left)

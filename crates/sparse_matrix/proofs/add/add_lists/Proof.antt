@@ -1,15 +1,11 @@
 -- `sparse_matrix::add::add_lists` meets its contract. Assumes nothing.
-use borrow.Author.Tests.{not-true, not-false}
 -- `sparse_matrix::add::add_lists` meets its contract. Assumes nothing.
-use Rattle.sparse_matrix.proofs.Sums.{can-add, lists-kept, never-full, new-count, lists-done}
 use native.Mathlib.Omega.{arith}
+use borrow.Author.Tests.{not-true, not-false}
 use borrow.Author.Needs.{needs}
+use Rattle.sparse_matrix.proofs.Sums.{can-add, lists-kept, never-full, new-count, lists-done}
 use Rattle.sparse_matrix.proofs.add.add_lists.Statement.{statement}
 use Rattle.sparse_matrix.proofs.add.add_lists.Tie as tie
-use Rattle.sparse_matrix.proofs.add.add_lists.Reads as reads
-use Rattle.sparse_matrix.proofs.add.add_lists.Lts as lts
-use Rattle.sparse_matrix.proofs.add.count_of.Reads as count-of-reads
-use Rattle.sparse_vec.proofs.add_assign.Reads as add-assign-reads
 
 returns : tie.Need-returns
 returns c = lists-kept _ _ _ _ _ _ (c .before .before .before .pre) (not-true _ (c .if1 .taken))

@@ -1,11 +1,7 @@
 -- `sparse_matrix::add::aside` meets its contract. Assumes nothing.
 use Rattle.sparse_matrix.proofs.Sums.{aside-zero, aside-other}
-use native.Mathlib.Omega.{arith}
-use borrow.Author.Needs.{needs}
 use Rattle.sparse_matrix.proofs.add.aside.Statement.{statement}
 use Rattle.sparse_matrix.proofs.add.aside.Tie as tie
-use Rattle.sparse_matrix.proofs.add.aside.Reads as reads
-use Rattle.sparse_matrix.proofs.add.aside.Lts as lts
 
 returns : tie.Need-returns
 returns c = aside-zero _ _ (c .if1 .taken)

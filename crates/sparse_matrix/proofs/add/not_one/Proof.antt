@@ -1,16 +1,11 @@
 -- `sparse_matrix::add::not_one` meets its contract. Assumes nothing.
-use borrow.Author.Tests.{not-true, not-false}
 -- `sparse_matrix::add::not_one` meets its contract. Assumes nothing.
+use borrow.Author.Tests.{not-true, not-false}
+use borrow.Author.Needs.{needs}
 use Rattle.laws.proofs.Parts.{part-is}
 use Rattle.sparse_matrix.proofs.Sums.{no-index, not-single, rises, asked}
-use native.Mathlib.Omega.{arith}
-use borrow.Author.Needs.{needs}
 use Rattle.sparse_matrix.proofs.add.not_one.Statement.{statement}
 use Rattle.sparse_matrix.proofs.add.not_one.Tie as tie
-use Rattle.sparse_matrix.proofs.add.not_one.Reads as reads
-use Rattle.sparse_matrix.proofs.add.not_one.Lts as lts
-use Rattle.sparse_matrix.proofs.add.count_of.Reads as count-of-reads
-use Rattle.sparse_vec.proofs.get.Reads as get-reads
 
 returns : tie.Need-returns
 returns c = no-index _ _ _ _ _ (c .before .before .before .pre) _ (not-true _ (c .if1 .taken))

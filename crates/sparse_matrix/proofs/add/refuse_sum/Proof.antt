@@ -1,14 +1,8 @@
 -- `sparse_matrix::add::refuse_sum` meets its contract. Assumes nothing.
-use Rattle.sparse_matrix.proofs.Sums.{can-add, refuses-one, sum-fits, sum-full}
-use native.Mathlib.Omega.{arith}
 use borrow.Author.Needs.{needs}
+use Rattle.sparse_matrix.proofs.Sums.{can-add, refuses-one, sum-fits, sum-full}
 use Rattle.sparse_matrix.proofs.add.refuse_sum.Statement.{statement}
 use Rattle.sparse_matrix.proofs.add.refuse_sum.Tie as tie
-use Rattle.sparse_matrix.proofs.add.refuse_sum.Reads as reads
-use Rattle.sparse_matrix.proofs.add.refuse_sum.Lts as lts
-use Rattle.sparse_matrix.proofs.add.count_of.Reads as count-of-reads
-use Rattle.sparse_matrix.proofs.add.not_one.Reads as not-one-reads
-use Rattle.sparse_vec.proofs.sum_fits.Reads as sum-fits-reads
 
 not-one-requires : tie.Need-not-one-requires
 not-one-requires c κs = search needs

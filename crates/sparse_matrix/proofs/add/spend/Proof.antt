@@ -1,13 +1,10 @@
 -- `sparse_matrix::add::spend` meets its contract. Assumes nothing.
-use borrow.Author.Tests.{not-true, not-false}
-use Rattle.sparse_matrix.proofs.Sums.{no-rows, no-marks, marked}
 use native.Mathlib.Omega.{arith}
+use borrow.Author.Tests.{not-true, not-false}
 use borrow.Author.Needs.{needs}
+use Rattle.sparse_matrix.proofs.Sums.{no-rows, no-marks, marked}
 use Rattle.sparse_matrix.proofs.add.spend.Statement.{statement}
 use Rattle.sparse_matrix.proofs.add.spend.Tie as tie
-use Rattle.sparse_matrix.proofs.add.spend.Reads as reads
-use Rattle.sparse_matrix.proofs.add.spend.Lts as lts
-use Rattle.sparse_matrix.proofs.add.place.Reads as place-reads
 
 returns : tie.Need-returns
 returns c = no-rows _ _ _ _ _ _ (c .before .before .before .pre) (not-true _ (c .if1 .taken))

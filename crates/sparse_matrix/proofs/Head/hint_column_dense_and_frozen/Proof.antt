@@ -1,0 +1,52 @@
+use mathlib.Core.Path.{refl, sym, _∙_}
+use borrow.Author.Tests.{not-true, not-false}
+use Rattle.sparse_matrix.proofs.Calls.{sound, damaged-result, whole-result}
+use native.Mathlib.Omega.{arith}
+use borrow.Author.Needs.{needs}
+use Rattle.sparse_matrix.proofs.Head.hint_column_dense_and_frozen.Statement.{statement}
+use Rattle.sparse_matrix.proofs.Head.hint_column_dense_and_frozen.Tie as tie
+
+well-formed-requires : tie.Need-well-formed-requires
+well-formed-requires c κs = search needs
+
+same-length : tie.Need-same-length
+same-length c = search needs
+
+same-length-2 : tie.Need-same-length-2
+same-length-2 c = search needs
+
+same-length-3 : tie.Need-same-length-3
+same-length-3 c = search needs
+
+returns : tie.Need-returns
+returns c = damaged-result _ _ refl (sym (not-true _ (c .if1 .taken)) ∙ c .before .well-formed .ensures)
+
+hint-column-dense-and-frozen-in-requires : tie.Need-hint-column-dense-and-frozen-in-requires
+hint-column-dense-and-frozen-in-requires c κs = sound _ (sym (not-false _ (c .before .before .before .if1 .left)) ∙ c .before .before .before .before .well-formed .ensures)
+
+same-length-4 : tie.Need-same-length-4
+same-length-4 c = search needs
+
+same-length-5 : tie.Need-same-length-5
+same-length-5 c = search needs
+
+same-length-6 : tie.Need-same-length-6
+same-length-6 c = search needs
+
+returns-2 : tie.Need-returns-2
+returns-2 c = whole-result _ _ _ (sym (not-false _ (c .before .before .before .before .before .before .before .before .before .before .if1 .left)) ∙ c .before .before .before .before .before .before .before .before .before .before .before .well-formed .ensures) (c .before .before .before .before .before .before .hint-column-dense-and-frozen-in .ensures)
+
+pub hint-column-dense-and-frozen-spec : {M : Type 1} → statement M
+hint-column-dense-and-frozen-spec =
+    tie.close
+    (tie.spec
+    well-formed-requires
+    same-length
+    same-length-2
+    same-length-3
+    returns
+    hint-column-dense-and-frozen-in-requires
+    same-length-4
+    same-length-5
+    same-length-6
+    returns-2)
