@@ -320,22 +320,23 @@ fn lists(
     }
 }
 
-fn main() {
-    let d = head(false);
-    let mut slots = [0u16, 2, 2, 0];
-    let mut counts = [2u16, 1];
-    let mut row_homes = [1u32, 0];
+// The store with the index off: all that it is asked; then into one place of answers; then with a buffer short by one.
+fn off_told() {
+    let slots = [0u16, 2, 2, 0];
+    let counts = [2u16, 1];
+    let row_homes = [1u32, 0];
     let row_logicals = [1u32, 0];
-    let mut column_homes = [2u16, 0, 1];
-    let mut column_logicals = [1u16, 2, 0];
-    let mut marks = [0u8; 3];
-    let mut starts = [0u64; 4];
-    let mut entries = [0u32; 4];
-    let mut words = [9223372036854775808u64, 0];
-    let mut few = [7u32; 1];
+    let column_homes = [2u16, 0, 1];
+    let column_logicals = [1u16, 2, 0];
+    let marks = [0u8; 3];
+    let starts = [0u64; 4];
+    let entries = [0u32; 4];
+    let words = [9223372036854775808u64, 0];
+    let short = [0u64; 3];
     let mut answers = [7u32; 3];
+    let mut few = [7u32; 1];
     numbers(
-        d,
+        head(false),
         &slots,
         &counts,
         &row_homes,
@@ -348,7 +349,7 @@ fn main() {
         &words,
     );
     lists(
-        d,
+        head(false),
         &slots,
         &counts,
         &row_homes,
@@ -362,7 +363,7 @@ fn main() {
         &mut answers,
     );
     lists(
-        d,
+        head(false),
         &slots,
         &counts,
         &row_homes,
@@ -375,8 +376,45 @@ fn main() {
         &words,
         &mut few,
     );
-    // each kind of number damaged, asked, and set back
-    slots[1] = 0;
+    ask(
+        head(false),
+        &slots,
+        &counts,
+        &row_homes,
+        &row_logicals,
+        &column_homes,
+        &column_logicals,
+        &marks,
+        &short,
+        &entries,
+        &words,
+    );
+}
+
+// The store with the index off and one number of each kind as given: right with 2 0 2 1 2 0 0 0 0 0.
+fn off_asked(
+    d: Head,
+    slot: u16,
+    after: u16,
+    count: u16,
+    row: u32,
+    column: u16,
+    logical: u16,
+    mark: u8,
+    start: u64,
+    entry: u32,
+    word: u64,
+) {
+    let slots = [0u16, slot, 2, after];
+    let counts = [count, 1u16];
+    let row_homes = [row, 0u32];
+    let row_logicals = [1u32, 0];
+    let column_homes = [column, 0u16, 1];
+    let column_logicals = [1u16, 2, logical];
+    let marks = [0u8, 0, mark];
+    let starts = [0u64, 0, 0, start];
+    let entries = [0u32, 0, 0, entry];
+    let words = [9223372036854775808u64, word];
     ask(
         d,
         &slots,
@@ -390,228 +428,21 @@ fn main() {
         &entries,
         &words,
     );
-    slots[1] = 2;
-    slots[3] = 5;
-    ask(
-        d,
-        &slots,
-        &counts,
-        &row_homes,
-        &row_logicals,
-        &column_homes,
-        &column_logicals,
-        &marks,
-        &starts,
-        &entries,
-        &words,
-    );
-    slots[3] = 0;
-    counts[0] = 3;
-    ask(
-        d,
-        &slots,
-        &counts,
-        &row_homes,
-        &row_logicals,
-        &column_homes,
-        &column_logicals,
-        &marks,
-        &starts,
-        &entries,
-        &words,
-    );
-    counts[0] = 2;
-    row_homes[0] = 0;
-    ask(
-        d,
-        &slots,
-        &counts,
-        &row_homes,
-        &row_logicals,
-        &column_homes,
-        &column_logicals,
-        &marks,
-        &starts,
-        &entries,
-        &words,
-    );
-    row_homes[0] = 1;
-    column_homes[0] = 1;
-    ask(
-        d,
-        &slots,
-        &counts,
-        &row_homes,
-        &row_logicals,
-        &column_homes,
-        &column_logicals,
-        &marks,
-        &starts,
-        &entries,
-        &words,
-    );
-    column_homes[0] = 2;
-    column_logicals[2] = 1;
-    ask(
-        d,
-        &slots,
-        &counts,
-        &row_homes,
-        &row_logicals,
-        &column_homes,
-        &column_logicals,
-        &marks,
-        &starts,
-        &entries,
-        &words,
-    );
-    column_logicals[2] = 0;
-    words[1] = 1;
-    ask(
-        d,
-        &slots,
-        &counts,
-        &row_homes,
-        &row_logicals,
-        &column_homes,
-        &column_logicals,
-        &marks,
-        &starts,
-        &entries,
-        &words,
-    );
-    words[1] = 0;
-    marks[2] = 1;
-    ask(
-        d,
-        &slots,
-        &counts,
-        &row_homes,
-        &row_logicals,
-        &column_homes,
-        &column_logicals,
-        &marks,
-        &starts,
-        &entries,
-        &words,
-    );
-    marks[2] = 0;
-    starts[3] = 1;
-    ask(
-        d,
-        &slots,
-        &counts,
-        &row_homes,
-        &row_logicals,
-        &column_homes,
-        &column_logicals,
-        &marks,
-        &starts,
-        &entries,
-        &words,
-    );
-    starts[3] = 0;
-    entries[3] = 1;
-    ask(
-        d,
-        &slots,
-        &counts,
-        &row_homes,
-        &row_logicals,
-        &column_homes,
-        &column_logicals,
-        &marks,
-        &starts,
-        &entries,
-        &words,
-    );
-    entries[3] = 0;
-    // the head: a tail wider than the matrix, slots past the limit, an index that is on over none
-    ask(
-        Head {
-            h: 2,
-            w: 3,
-            n: 4,
-            slots: 2,
-            made: 3,
-            on: false,
-        },
-        &slots,
-        &counts,
-        &row_homes,
-        &row_logicals,
-        &column_homes,
-        &column_logicals,
-        &marks,
-        &starts,
-        &entries,
-        &words,
-    );
-    ask(
-        Head {
-            h: 2,
-            w: 3,
-            n: 1,
-            slots: 65536,
-            made: 3,
-            on: false,
-        },
-        &slots,
-        &counts,
-        &row_homes,
-        &row_logicals,
-        &column_homes,
-        &column_logicals,
-        &marks,
-        &starts,
-        &entries,
-        &words,
-    );
-    ask(
-        head(true),
-        &slots,
-        &counts,
-        &row_homes,
-        &row_logicals,
-        &column_homes,
-        &column_logicals,
-        &marks,
-        &starts,
-        &entries,
-        &words,
-    );
-    // a buffer short by one, and all as it was
-    ask(
-        d,
-        &slots,
-        &counts,
-        &row_homes,
-        &row_logicals,
-        &column_homes,
-        &column_logicals,
-        &marks,
-        &starts[..3],
-        &entries,
-        &words,
-    );
-    ask(
-        d,
-        &slots,
-        &counts,
-        &row_homes,
-        &row_logicals,
-        &column_homes,
-        &column_logicals,
-        &marks,
-        &starts,
-        &entries,
-        &words,
-    );
-    // the index on: home column 0 lists home row 0, home column 2 lists both
-    starts[1] = 1;
-    starts[2] = 1;
-    starts[3] = 3;
-    entries[2] = 1;
+}
+
+// The index on: home column 0 lists home row 0, home column 2 lists both, and its mark is given.
+fn on_told(mark: u8) {
+    let slots = [0u16, 2, 2, 0];
+    let counts = [2u16, 1];
+    let row_homes = [1u32, 0];
+    let row_logicals = [1u32, 0];
+    let column_homes = [2u16, 0, 1];
+    let column_logicals = [1u16, 2, 0];
+    let marks = [0u8, 0, mark];
+    let starts = [0u64, 1, 1, 3];
+    let entries = [0u32, 0, 1, 0];
+    let words = [9223372036854775808u64, 0];
+    let mut answers = [7u32; 3];
     lists(
         head(true),
         &slots,
@@ -626,23 +457,20 @@ fn main() {
         &words,
         &mut answers,
     );
-    marks[2] = 1;
-    lists(
-        head(true),
-        &slots,
-        &counts,
-        &row_homes,
-        &row_logicals,
-        &column_homes,
-        &column_logicals,
-        &marks,
-        &starts,
-        &entries,
-        &words,
-        &mut answers,
-    );
-    marks[2] = 0;
-    marks[1] = 2;
+}
+
+// The same with one number of each kind as given: right with 0 1 1.
+fn on_asked(mark: u8, start: u64, entry: u32) {
+    let slots = [0u16, 2, 2, 0];
+    let counts = [2u16, 1];
+    let row_homes = [1u32, 0];
+    let row_logicals = [1u32, 0];
+    let column_homes = [2u16, 0, 1];
+    let column_logicals = [1u16, 2, 0];
+    let marks = [0u8, mark, 0];
+    let starts = [0u64, 1, start, 3];
+    let entries = [0u32, 0, entry, 0];
+    let words = [9223372036854775808u64, 0];
     ask(
         head(true),
         &slots,
@@ -656,48 +484,42 @@ fn main() {
         &entries,
         &words,
     );
-    marks[1] = 0;
-    starts[2] = 2;
-    ask(
-        head(true),
-        &slots,
-        &counts,
-        &row_homes,
-        &row_logicals,
-        &column_homes,
-        &column_logicals,
-        &marks,
-        &starts,
-        &entries,
-        &words,
-    );
-    starts[2] = 1;
-    entries[2] = 2;
-    ask(
-        head(true),
-        &slots,
-        &counts,
-        &row_homes,
-        &row_logicals,
-        &column_homes,
-        &column_logicals,
-        &marks,
-        &starts,
-        &entries,
-        &words,
-    );
-    entries[2] = 1;
-    ask(
-        head(true),
-        &slots,
-        &counts,
-        &row_homes,
-        &row_logicals,
-        &column_homes,
-        &column_logicals,
-        &marks,
-        &starts,
-        &entries,
-        &words,
-    );
+}
+
+// The numbers of the head as given.
+fn other_head(n: u32, slots: u32) -> Head {
+    Head {
+        h: 2,
+        w: 3,
+        n: n,
+        slots: slots,
+        made: 3,
+        on: false,
+    }
+}
+
+fn main() {
+    off_told();
+    // each kind of number damaged
+    off_asked(head(false), 0, 0, 2, 1, 2, 0, 0, 0, 0, 0);
+    off_asked(head(false), 2, 5, 2, 1, 2, 0, 0, 0, 0, 0);
+    off_asked(head(false), 2, 0, 3, 1, 2, 0, 0, 0, 0, 0);
+    off_asked(head(false), 2, 0, 2, 0, 2, 0, 0, 0, 0, 0);
+    off_asked(head(false), 2, 0, 2, 1, 1, 0, 0, 0, 0, 0);
+    off_asked(head(false), 2, 0, 2, 1, 2, 1, 0, 0, 0, 0);
+    off_asked(head(false), 2, 0, 2, 1, 2, 0, 1, 0, 0, 0);
+    off_asked(head(false), 2, 0, 2, 1, 2, 0, 0, 1, 0, 0);
+    off_asked(head(false), 2, 0, 2, 1, 2, 0, 0, 0, 1, 0);
+    off_asked(head(false), 2, 0, 2, 1, 2, 0, 0, 0, 0, 1);
+    // the head: a tail wider than the matrix, slots past the limit, an index that is on over none; and all as it was
+    off_asked(other_head(4, 2), 2, 0, 2, 1, 2, 0, 0, 0, 0, 0);
+    off_asked(other_head(1, 65536), 2, 0, 2, 1, 2, 0, 0, 0, 0, 0);
+    off_asked(head(true), 2, 0, 2, 1, 2, 0, 0, 0, 0, 0);
+    off_asked(head(false), 2, 0, 2, 1, 2, 0, 0, 0, 0, 0);
+    on_told(0);
+    on_told(1);
+    on_asked(2, 1, 1);
+    on_asked(0, 2, 1);
+    on_asked(0, 1, 2);
+    on_asked(0, 1, 1);
 }

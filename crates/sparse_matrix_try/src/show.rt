@@ -47,22 +47,41 @@ pub fn sizes(x: Sized) {
     }
 }
 
+// A number, where its place is before n.
+fn before(i: usize, n: u32, x: u32) {
+    if i < n as usize {
+        number(wide(x));
+    }
+}
+
+// The first n numbers of the list.
+fn numbers(list: &[u32], n: u32) {
+    let mut i = 0;
+    while i < list.len() {
+        before(i, n, list[i]);
+        i += 1;
+    }
+}
+
 // The first n answers.
 pub fn list(answers: &[u32], n: u32) {
     io::write_all(STDOUT_FILENO, b"ok");
-    for i in 0..answers.len() {
-        if i < n as usize {
-            number(wide(answers[i]));
-        }
-    }
+    numbers(answers, n);
     io::write_all(STDOUT_FILENO, b"\n");
+}
+
+// Each word of the list.
+fn long_numbers(list: &[u64]) {
+    let mut i = 0;
+    while i < list.len() {
+        number(list[i]);
+        i += 1;
+    }
 }
 
 // The words handed back.
 pub fn words(ws: &[u64]) {
     io::write_all(STDOUT_FILENO, b"words");
-    for i in 0..ws.len() {
-        number(ws[i]);
-    }
+    long_numbers(ws);
     io::write_all(STDOUT_FILENO, b"\n");
 }
