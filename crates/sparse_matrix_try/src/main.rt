@@ -1,8 +1,9 @@
-// Asks a small store, index off and on, and then damages each kind of its numbers in turn: the line is then `no 1`.
+// Asks a small store, index off and on, and then damages each kind of its numbers in turn: GET and SET then say `no 1`, and every number is as it was.
 // The store: 2 rows, 3 columns, the last in the tail. Row 0 is kept as home row 1 and row 1 as home row 0; columns 0, 1, 2 as home columns 2, 0, 1.
 // Row 0 holds one in column 0; row 1 in columns 0, 1 and 2.
 mod show;
 
+use sparse_matrix::Changed;
 use sparse_matrix::Head;
 use sparse_matrix::Listed;
 
@@ -320,6 +321,43 @@ fn lists(
     }
 }
 
+// SET of row 0, column 1 to one; then every number of the store.
+fn put(
+    d: Head,
+    slots: &mut [u16],
+    counts: &mut [u16],
+    row_homes: &[u32],
+    row_logicals: &[u32],
+    column_homes: &[u16],
+    column_logicals: &[u16],
+    marks: &[u8],
+    starts: &[u64],
+    entries: &[u32],
+    words: &mut [u64],
+) {
+    match d.set(
+        slots,
+        counts,
+        row_homes,
+        row_logicals,
+        column_homes,
+        column_logicals,
+        marks,
+        starts,
+        entries,
+        words,
+        0,
+        1,
+        1,
+    ) {
+        Changed::Done(_) => show::done(),
+        Changed::No(k) => show::refused(k),
+    }
+    show::maps(row_homes, row_logicals, column_homes, column_logicals);
+    show::rows(slots, counts, words);
+    show::index(marks, starts, entries);
+}
+
 // The store with the index off: all that it is asked; then into one place of answers; then with a buffer short by one.
 fn off_told() {
     let slots = [0u16, 2, 2, 0];
@@ -405,8 +443,8 @@ fn off_asked(
     entry: u32,
     word: u64,
 ) {
-    let slots = [0u16, slot, 2, after];
-    let counts = [count, 1u16];
+    let mut slots = [0u16, slot, 2, after];
+    let mut counts = [count, 1u16];
     let row_homes = [row, 0u32];
     let row_logicals = [1u32, 0];
     let column_homes = [column, 0u16, 1];
@@ -414,7 +452,7 @@ fn off_asked(
     let marks = [0u8, 0, mark];
     let starts = [0u64, 0, 0, start];
     let entries = [0u32, 0, 0, entry];
-    let words = [9223372036854775808u64, word];
+    let mut words = [9223372036854775808u64, word];
     ask(
         d,
         &slots,
@@ -427,6 +465,19 @@ fn off_asked(
         &starts,
         &entries,
         &words,
+    );
+    put(
+        d,
+        &mut slots,
+        &mut counts,
+        &row_homes,
+        &row_logicals,
+        &column_homes,
+        &column_logicals,
+        &marks,
+        &starts,
+        &entries,
+        &mut words,
     );
 }
 
@@ -461,8 +512,8 @@ fn on_told(mark: u8) {
 
 // The same with one number of each kind as given: right with 0 1 1.
 fn on_asked(mark: u8, start: u64, entry: u32) {
-    let slots = [0u16, 2, 2, 0];
-    let counts = [2u16, 1];
+    let mut slots = [0u16, 2, 2, 0];
+    let mut counts = [2u16, 1];
     let row_homes = [1u32, 0];
     let row_logicals = [1u32, 0];
     let column_homes = [2u16, 0, 1];
@@ -470,7 +521,7 @@ fn on_asked(mark: u8, start: u64, entry: u32) {
     let marks = [0u8, mark, 0];
     let starts = [0u64, 1, start, 3];
     let entries = [0u32, 0, entry, 0];
-    let words = [9223372036854775808u64, 0];
+    let mut words = [9223372036854775808u64, 0];
     ask(
         head(true),
         &slots,
@@ -483,6 +534,19 @@ fn on_asked(mark: u8, start: u64, entry: u32) {
         &starts,
         &entries,
         &words,
+    );
+    put(
+        head(true),
+        &mut slots,
+        &mut counts,
+        &row_homes,
+        &row_logicals,
+        &column_homes,
+        &column_logicals,
+        &marks,
+        &starts,
+        &entries,
+        &mut words,
     );
 }
 

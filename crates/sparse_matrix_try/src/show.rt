@@ -14,6 +14,11 @@ fn number(x: u64) {
     io::print_decimal(STDOUT_FILENO, x);
 }
 
+// An accepted call without an answer.
+pub fn done() {
+    io::write_all(STDOUT_FILENO, b"ok\n");
+}
+
 // A refused call.
 pub fn refused(k: u32) {
     io::write_all(STDOUT_FILENO, b"no");
@@ -83,5 +88,71 @@ fn long_numbers(list: &[u64]) {
 pub fn words(ws: &[u64]) {
     io::write_all(STDOUT_FILENO, b"words");
     long_numbers(ws);
+    io::write_all(STDOUT_FILENO, b"\n");
+}
+
+fn wide_8(x: u8) -> u64 {
+    x as u64
+}
+
+fn wide_16(x: u16) -> u64 {
+    x as u64
+}
+
+// Each number of a list of 8, 16 or 32 bits.
+fn numbers_8(list: &[u8]) {
+    let mut i = 0;
+    while i < list.len() {
+        number(wide_8(list[i]));
+        i += 1;
+    }
+}
+
+fn numbers_16(list: &[u16]) {
+    let mut i = 0;
+    while i < list.len() {
+        number(wide_16(list[i]));
+        i += 1;
+    }
+}
+
+fn numbers_32(list: &[u32]) {
+    let mut i = 0;
+    while i < list.len() {
+        number(wide(list[i]));
+        i += 1;
+    }
+}
+
+// The four maps.
+pub fn maps(
+    row_homes: &[u32],
+    row_logicals: &[u32],
+    column_homes: &[u16],
+    column_logicals: &[u16],
+) {
+    io::write_all(STDOUT_FILENO, b"maps");
+    numbers_32(row_homes);
+    numbers_32(row_logicals);
+    numbers_16(column_homes);
+    numbers_16(column_logicals);
+    io::write_all(STDOUT_FILENO, b"\n");
+}
+
+// The rows' slots and counts, and the tail's words.
+pub fn rows(slots: &[u16], counts: &[u16], ws: &[u64]) {
+    io::write_all(STDOUT_FILENO, b"rows");
+    numbers_16(slots);
+    numbers_16(counts);
+    long_numbers(ws);
+    io::write_all(STDOUT_FILENO, b"\n");
+}
+
+// The index.
+pub fn index(marks: &[u8], starts: &[u64], entries: &[u32]) {
+    io::write_all(STDOUT_FILENO, b"index");
+    numbers_8(marks);
+    long_numbers(starts);
+    numbers_32(entries);
     io::write_all(STDOUT_FILENO, b"\n");
 }
