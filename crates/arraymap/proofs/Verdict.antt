@@ -10,7 +10,7 @@ use lib.ListN.{length, getD}
 use borrow.Author.Tests.{eqb-true, eqb-false, eq-eqb, ne-eqb, lt-ltb, ltb-true, le-leb, lt-leb, leb-true, leb-false}
 use Rattle.laws.specs.Rows.{member, From}
 use Rattle.laws.specs.Tests.{allBelow, zeroFrom}
-use Rattle.laws.proofs.Bools.{by-test, and-true, and-first, and-second, and-false}
+use Rattle.laws.proofs.Bools.{by-test, and-true, and-first, and-second, and-false, and-group}
 use Rattle.laws.proofs.Members.{member-at, member-head, member-later, member-place}
 use Rattle.laws.proofs.Passes.{all-at, all-of, zero-sound, zero-complete}
 use Rattle.arraymap.specs.Index.{listAt}
@@ -85,10 +85,6 @@ module _ (m : ℕ) (S E M : List ℕ) where
               rw (eq-eqb (getD S 0 0) 0 p, sym q₂ ∙ t₂, le-leb (getD S m 0) (length E) (omega arith), c₄ ∙ t₄, c₅ ∙ t₅, sym q₆ ∙ t₆) q₇
 
 -- ---- sound: what the later tests lean on
-and-group : (a b c : Bool) → (a && b) && c ≡ a && (b && c)
-and-group true b c = refl
-and-group false b c = refl
-
 module _ (rows : ℕ → List ℕ) (h m : ℕ) (S E logical M : List ℕ) (edge : ℕ) where
   split : indexTest rows h m S E logical M edge
       ≡ shapeTest m S E M && (allBelow m (listOk S E h) && (allBelow h (rowListed S E rows) && allBelow m (exactAt rows S E logical M edge)))

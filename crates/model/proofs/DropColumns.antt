@@ -74,7 +74,7 @@ cut-more k w s u hk off c =
     same : (y : ℕ) → pick (eqb y y) (keptBelow (s .columns .logicals) w (row u y)) (row u y) ≡ keptBelow (s .columns .logicals) w (row u y)
     same y = by-test (eqb y y) (λ e. rw e) (λ n. absurd (eqb-false y y n refl))
 
-cut : (k w : ℕ) (s : Store) → WellFormed s → s .head .on ≡ false → k ≤ s .head .h → Cut k w s (keptColumns k w s)
+pub cut : (k w : ℕ) (s : Store) → WellFormed s → s .head .on ≡ false → k ≤ s .head .h → Cut k w s (keptColumns k w s)
 unfolding keptColumns
 cut zero w s v off h =
     record { ok = v; head = refl; rows = refl; columns = refl; index = refl; words = refl; room = same-room s; done = λ y hy. absurd (omega arith); left = λ y l hy. refl }

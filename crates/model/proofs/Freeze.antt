@@ -58,7 +58,7 @@ module _ (s : Store) (v : WellFormed s) (c : ℕ) (can : CanFreeze s c) where
   g : Store
   g = grownTail s
 
-  g-frame : Frame (grownTail s) (edge s)
+  pub g-frame : Frame (grownTail s) (edge s)
   g-frame =
       record {
         maps = record { rows = v .maps .rows; columns = v .maps .columns; wide = v .maps .wide };

@@ -11,7 +11,7 @@ use borrow.Author.Tests.{le-leb, lt-leb}
 use Rattle.laws.specs.Parts.{rowOf}
 use Rattle.laws.specs.Tests.{zeroFrom}
 use Rattle.laws.specs.Words.{wordsFor}
-use Rattle.laws.proofs.Bools.{and-last}
+use Rattle.laws.proofs.Bools.{and-last, and-group}
 use Rattle.laws.proofs.Parts.{part-is, row-end}
 use Rattle.laws.proofs.Passes.{Passed, passed-fails, passed-done}
 use Rattle.table.specs.Step.{heightLimit, widthLimit, slotLimit}
@@ -23,10 +23,7 @@ use Rattle.model.specs.Check.{headTest}
 use Rattle.store_check.specs.Pieces.{longOk, mapsOk, unusedOk, rowOk, rowsOk, offOk, switchOk}
 use Rattle.store_check.specs.Asked.{Limited, HasRow, HasRows}
 
--- the code joins its tests from the left, the definitions from the right
-and-group : (a b c : Bool) → (a && b) && c ≡ a && (b && c)
-and-group true b c = refl
-and-group false b c = refl
+-- the code joins its tests from the left, the definitions from the right: and-group
 
 -- ---- numbers
 pub head-told : (d : Head)
