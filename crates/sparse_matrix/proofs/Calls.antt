@@ -4,9 +4,9 @@ use mathlib.Core.Bool.{Bool, true, false, not, _&&_}
 use mathlib.Core.List.{List, []}
 use Prim.Native.Nat.{ℕ}
 use Rattle.table.specs.declared.Op.{Op}
-use Rattle.table.specs.Refusals.{Verdict, refused, done, outcome}
+use Rattle.table.specs.Refusals.{Check, Verdict, refused, done, outcome}
 use Rattle.table.specs.Step.{answer}
-use Rattle.table.specs.Room.{kind, isMake, allChecks}
+use Rattle.table.specs.Room.{Held, kind, isMake, allChecks}
 use Rattle.table.specs.Run.{Reply, ok, nay, replyOf}
 use Rattle.model.specs.Store.{Store, Full, tableOf, heldOf}
 use Rattle.model.specs.WellFormed.{WellFormed}
@@ -46,3 +46,12 @@ module _ (o : Op) (f : Full) where
 
 pub sound : (s : Store) → true ≡ wellFormed s → WellFormed s
 sound s w = check-sound s (sym w)
+
+-- ---- MAKE asks for no well-formed store
+make-checks : (b : Bool) (o : Op) → isMake (kind o) ≡ true → (h : Held) → allChecks true o h ≡ allChecks b o h
+make-checks true o m h = refl
+make-checks false o m h = rw m
+
+pub make-any : (o : Op) (f : Full) → isMake (kind o) ≡ true → inner o f ≡ step o f
+unfolding step inner
+make-any o f m = ap (λ (cs : List Check). outcome cs (done (fullAfter o f) (answer o (tableOf (f .store))))) (make-checks (wellFormed (f .store)) o m (heldOf f))

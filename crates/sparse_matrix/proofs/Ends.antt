@@ -5,7 +5,7 @@ use Prim.Native.Nat.{ℕ}
 use Rattle.table.specs.declared.Op.{Op}
 use Rattle.table.specs.Refusals.{Verdict}
 use Rattle.table.specs.Run.{ok, nay}
-use Rattle.model.specs.Store.{Store, Full}
+use Rattle.model.specs.Store.{Head, Store, Full}
 use Rattle.model.specs.Step.{Result, resultOf}
 use Rattle.sparse_matrix.specs.Lent.{fullOf}
 
@@ -16,3 +16,15 @@ Refuses call o s k = _≡_ {A = Result} (record { reply = nay k; after = fullOf 
 -- the store u
 abbrev pub Leaves : (Op → Full → Verdict Full) → Op → Store → Store → Type 0
 Leaves call o s u = _≡_ {A = Result} (record { reply = ok []; after = fullOf u [] }) (resultOf (fullOf s []) (call o (fullOf s [])))
+
+-- a head over no numbers at all
+abbrev pub overHead : Head → Store
+overHead h =
+    record {
+      head = h;
+      slots = record { entries = []; counts = [] };
+      rows = record { homes = []; logicals = [] };
+      columns = record { homes = []; logicals = [] };
+      index = record { starts = []; entries = []; marks = [] };
+      words = [];
+    }

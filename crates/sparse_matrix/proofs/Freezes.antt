@@ -18,7 +18,7 @@ use Rattle.laws.specs.Words.{wordsFor}
 use Rattle.laws.proofs.Members.{from-take, member-at, member-place, take-length}
 use Rattle.sparse_vec.specs.Row.{HasRow, putRow}
 use Rattle.tail.specs.Tail.{CanGrow, InTail, grown, tailPut}
-use Rattle.tail.proofs.Grown.{grown-length, pad-grown, grown-past}
+use Rattle.tail.proofs.Grown.{grown-length}
 use Rattle.arraymap.specs.Index.{listAt}
 use Rattle.arraymap.specs.Show.{CanList}
 use Rattle.arraymap.specs.Check.{IndexOk}
@@ -33,7 +33,7 @@ use Rattle.model.specs.Change.{withRow, withWords, grownTail, freezeRow, freeze
 use Rattle.model.specs.Step.{Result, inner, resultOf}
 use Rattle.model.proofs.Rows.{Frame, row-fits, frame-words}
 use Rattle.model.proofs.FreezeRows.{Frozen, freeze-rows}
-use Rattle.model.proofs.Freeze.{CanFreeze}
+use Rattle.model.proofs.Freeze.{CanFreeze, g-frame}
 use Rattle.model.proofs.Passed.{can-freeze}
 use Rattle.sparse_matrix.specs.Lent.{fullOf}
 use Rattle.sparse_matrix.specs.Refused.{refusalOf}
@@ -226,43 +226,6 @@ module _ (s : Store) (v : WellFormed s) (p : Column) (free : 0 ≡ refusalOf (in
   sound : IndexOk (row s) (s .head .h) (s .head .made) (s .index .starts) (s .index .entries) (s .columns .logicals) (s .index .marks) (edge s)
   sound = v .index .on (can .on)
 
-  words-up : s .head .h * wordsFor (s .head .n) ≤ s .head .h * wordsFor (suc (s .head .n))
-  words-up = mul-le-mul {n₁ = s .head .h} {n₂ = s .head .h} (omega arith) (omega arith)
-
-  grown-frame : Frame (grownTail s) (edge s)
-  grown-frame =
-      record {
-        maps = record { rows = v .maps .rows; columns = v .maps .columns; wide = v .maps .wide };
-        room = v .rows .room;
-        rising = v .rows .rising;
-        home = v .rows .home;
-        sparse = v .rows .sparse;
-        tail = record { padding = λ y hy. pad-grown (s .words) (s .head .n) (s .head .h) (can .room) y hy (v .tail .padding y hy) };
-        limits =
-            record {
-              height = v .limits .height;
-              width = v .limits .width;
-              tail = omega (arith, can .last);
-              slots = v .limits .slots;
-              entries = v .limits .entries;
-              counts = v .limits .counts;
-              marks = v .limits .marks;
-              starts = v .limits .starts;
-              words = rw (grown-length (s .words) (s .head .n) (s .head .h) (can .room)) (can .room);
-            };
-        unused =
-            record {
-              slots = v .unused .slots;
-              entries = v .unused .entries;
-              counts = v .unused .counts;
-              row-homes = v .unused .row-homes;
-              row-logicals = v .unused .row-logicals;
-              column-homes = v .unused .column-homes;
-              column-logicals = v .unused .column-logicals;
-              words = λ i hi. grown-past (s .words) (s .head .n) (s .head .h) (can .room) i hi ∙ v .unused .words i (omega (arith, words-up));
-            };
-      }
-
   module _ (q z : ℕ) (q-is : q ≡ p .c) (z-is : z ≡ getD (s .columns .homes) q 0) where
     home-is : z ≡ homeColumn s (p .c)
     home-is = z-is ∙ ap (homeColumn s) q-is
@@ -282,7 +245,7 @@ module _ (s : Store) (v : WellFormed s) (p : Column) (free : 0 ≡ refusalOf (in
       listed q m = sound .below z q z-made (rw the-list at m)
 
       walked : (i : ℕ) → i ≤ length list → Frozen (edge s) z (take i list) (wider (over s ws)) (freezeRows z (take i list) (wider (over s ws)))
-      walked i h = freeze-rows (edge s) z (take i list) 0 (from-take 0 i list (rw the-list (sound .rising z z-made))) (wider (over s ws)) (rw ws-are grown-frame) (omega arith)
+      walked i h = freeze-rows (edge s) z (take i list) 0 (from-take 0 i list (rw the-list (sound .rising z z-made))) (wider (over s ws)) (rw ws-are (g-frame s v (p .c) can)) (omega arith)
           (λ q m. listed q (in-take i q list h m))
 
       module _ (slots counts words : List ℕ) (i : ℕ) (t : Turn (over s ws) z list slots counts words i) where

@@ -4,6 +4,7 @@ pub mod QueryLists
 pub mod QueryColumn
 pub mod QueryWords
 pub mod Ends
+pub mod Replies
 pub mod Clears
 pub mod Swaps
 pub mod Switches
@@ -15,3 +16,6 @@ pub mod Sums
 pub mod Adds
 pub mod Freezes
 pub mod Calls
+pub mod Determined
+pub mod Resizes
+pub mod Shrinks

@@ -1,25 +1,31 @@
 -- COLONES: what each way out leaves and says, and that the definition says the same. Assumes nothing.
-use mathlib.Core.Path.{_≡_, _∙_}
-use mathlib.Core.Bool.{true, false}
+use mathlib.Core.Path.{_≡_, sym, _∙_}
+use mathlib.Core.Bool.{Bool, true, false, not, _&&_}
 use mathlib.Core.List.{List}
 use Prim.Native.Nat.{ℕ, _-_, _≤_, _<_, min}
 use native.Mathlib.Omega.{arith}
-use lib.ListN.{length, getD, take}
-use borrow.Author.Tests.{lt-ltb, le-ltb, le-leb, lt-leb, eq-eqb, ne-eqb}
+use lib.ListN.{length, getD}
+use lib.Dec.{leb, ltb, eqb}
+use borrow.Author.Tests.{lt-ltb, le-ltb, le-leb, lt-leb, leb-false, ltb-false, eq-eqb, ne-eqb, eqb-true, not-false}
 use Rattle.laws.specs.Plain.{between}
 use Rattle.laws.specs.Rows.{member}
-use Rattle.laws.specs.Parts.{over}
+use Rattle.laws.specs.Parts.{over, stretch}
+use Rattle.laws.proofs.Bools.{quiet-first, quiet-rest}
 use Rattle.laws.proofs.Select.{count-most}
 use Rattle.arraymap.specs.Index.{listAt}
 use Rattle.arraymap.specs.Show.{mapped, shown, CanAnswer}
 use Rattle.table.specs.declared.ColumnRange.{ColumnRange}
 use Rattle.table.specs.declared.Op.the-variants.{ColOnes}
+use Rattle.table.specs.Step.{checks, answer}
+use Rattle.table.specs.Room.{roomChecks, passes}
 use Rattle.table.specs.Run.{ok}
-use Rattle.model.specs.Store.{Full, edge, homeColumn, tableOf}
+use Rattle.model.specs.Store.{Full, edge, homeColumn, tableOf, heldOf}
 use Rattle.model.specs.WellFormed.{WellFormed}
 use Rattle.model.specs.Step.{inner, resultOf}
 use Rattle.model.proofs.ColOnes.{colones-means}
 use Rattle.sparse_matrix.specs.Lent.{fullOf}
+use Rattle.sparse_matrix.specs.Refused.{refusalOf}
+use Rattle.sparse_matrix.proofs.Refuses.{past}
 use Rattle.sparse_matrix.proofs.QueryPlaces.{place-is, list-shows}
 use Rattle.sparse_matrix.proofs.QueryLists.{refuses, lists, listed-is}
 
@@ -95,5 +101,41 @@ module _ (p : ColumnRange) (f : Full) where
 
               pub colones-is : (i : ℕ) (m : List ℕ)
                   → (i ≡ length (shown (f .store .rows .logicals) (p .a) (p .b) l)) × (m ≡ over (shown (f .store .rows .logicals) (p .a) (p .b) l) (f .answers))
-                  → record { reply = ok (take i m); after = fullOf (f .store) m } ≡ resultOf f (inner (ColOnes p) f)
+                  → record { reply = ok (stretch m 0 i); after = fullOf (f .store) m } ≡ resultOf f (inner (ColOnes p) f)
               colones-is i m r = listed-is f (shown (f .store .rows .logicals) (p .a) (p .b) l) m i (r .0) (r .1) ∙ colones-done
+
+-- nothing refuses COLONES
+module _ (p : ColumnRange) (f : Full) (v : WellFormed (f .store)) (free : 0 ≡ refusalOf (inner (ColOnes p) f)) where
+  passed : (passes (checks (ColOnes p) (tableOf (f .store))) ≡ true) × (passes (roomChecks (heldOf f .room) (ColOnes p) (tableOf (f .store))) ≡ true)
+  passed = past (ColOnes p) f free
+
+  abbrev spent-too : Bool
+  spent-too = ltb (p .c) (f .store .head .w) && not (eqb (getD (f .store .index .marks) (homeColumn (f .store) (p .c)) 0) 0)
+
+  behind-five : not (leb (edge (f .store)) (p .c)) && (not (not (f .store .head .on)) && (not spent-too && true)) ≡ true
+  behind-five = quiet-rest (leb (f .store .head .w) (p .c)) (not (leb (edge (f .store)) (p .c)) && (not (not (f .store .head .on)) && (not spent-too && true))) (passed .0)
+
+  behind-six : not (not (f .store .head .on)) && (not spent-too && true) ≡ true
+  behind-six = quiet-rest (leb (edge (f .store)) (p .c)) (not (not (f .store .head .on)) && (not spent-too && true)) behind-five
+
+  pub colones-wide : p .c < f .store .head .w
+  colones-wide = leb-false (f .store .head .w) (p .c) (quiet-first (leb (f .store .head .w) (p .c)) (not (leb (edge (f .store)) (p .c)) && (not (not (f .store .head .on)) && (not spent-too && true))) (passed .0))
+
+  pub colones-sparse : p .c < edge (f .store)
+  colones-sparse = leb-false (edge (f .store)) (p .c) (quiet-first (leb (edge (f .store)) (p .c)) (not (not (f .store .head .on)) && (not spent-too && true)) behind-five)
+
+  pub colones-on : f .store .head .on ≡ true
+  colones-on = not-false (f .store .head .on) (quiet-first (not (f .store .head .on)) (not spent-too && true) behind-six)
+
+  pub colones-exact : (q k z : ℕ) → q ≡ p .c → k ≡ homeColumn (f .store) q → z ≡ k → getD (f .store .index .marks) z 0 ≡ 0
+  colones-exact q k z eq ek ez =
+      rw (home p f colones-wide colones-sparse v colones-on q k z eq ek ez)
+      (eqb-true (getD (f .store .index .marks) (homeColumn (f .store) (p .c)) 0) 0
+      (not-false (eqb (getD (f .store .index .marks) (homeColumn (f .store) (p .c)) 0) 0)
+      (rw (lt-ltb (p .c) (f .store .head .w) colones-wide) at (quiet-first spent-too true (quiet-rest (not (f .store .head .on)) (not spent-too && true) behind-six)))))
+
+  pub colones-fits : (q k z : ℕ) (eq : q ≡ p .c) (ek : k ≡ homeColumn (f .store) q) (ez : z ≡ k) (l : List ℕ) → l ≡ listAt (f .store .index .starts) (f .store .index .entries) z
+      → length (shown (f .store .rows .logicals) (p .a) (p .b) l) ≤ length (f .answers)
+  colones-fits q k z eq ek ez l el =
+      rw (sym (answer-is p f colones-wide colones-sparse v colones-on q k z eq ek ez (colones-exact q k z eq ek ez) l el))
+      (ltb-false (length (f .answers)) (length (answer (ColOnes p) (tableOf (f .store)))) (quiet-first (ltb (length (f .answers)) (length (answer (ColOnes p) (tableOf (f .store))))) true (passed .1)))

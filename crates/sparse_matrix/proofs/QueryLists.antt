@@ -1,16 +1,16 @@
 -- ITER and TAILONES: what each way out leaves and says, and that the definition says the same. Assumes nothing.
 use mathlib.Core.Path.{_≡_, refl, sym, ap, _∙_}
-use mathlib.Core.Bool.{true, not}
+use mathlib.Core.Bool.{Bool, true, false, not, _&&_, _||_}
 use mathlib.Core.List.{List}
 use Prim.Native.Nat.{ℕ, _+_, _-_, _≤_, _<_}
 use native.Mathlib.Omega.{arith}
-use lib.Dec.{eqb}
-use lib.ListN.{length, take, drop}
-use lib.Seq.{take-at}
-use borrow.Author.Tests.{lt-ltb, le-ltb, le-leb, lt-leb, eq-eqb, ne-eqb}
+use lib.Dec.{eqb, leb, ltb}
+use lib.ListN.{length}
+use borrow.Author.Tests.{lt-ltb, le-ltb, le-leb, lt-leb, leb-false, ltb-false, eq-eqb, ne-eqb, eqb-true, eqb-false, not-false}
 use Rattle.laws.specs.Plain.{num, between}
-use Rattle.laws.specs.Parts.{over}
-use Rattle.laws.proofs.Bools.{or-true}
+use Rattle.laws.specs.Parts.{over, stretch}
+use Rattle.laws.proofs.Bools.{or-true, or-first, or-second, quiet-first, quiet-rest}
+use Rattle.laws.proofs.Parts.{over-read}
 use Rattle.laws.proofs.Sums.{sum-same}
 use Rattle.laws.proofs.Select.{count-sum, count-most}
 use Rattle.sparse_vec.specs.Row.{walked}
@@ -20,13 +20,16 @@ use Rattle.table.specs.declared.RowRange.{RowRange}
 use Rattle.table.specs.declared.RowTail.{RowTail}
 use Rattle.table.specs.declared.Op.the-variants.{Iter, TailOnes}
 use Rattle.table.specs.Run.{ok, nay}
-use Rattle.table.specs.Step.{sortBy}
-use Rattle.model.specs.Store.{Full, edge, row, homeRow, tableOf}
+use Rattle.table.specs.Step.{sortBy, checks, answer}
+use Rattle.table.specs.Room.{roomChecks, passes}
+use Rattle.model.specs.Store.{Full, edge, row, homeRow, tableOf, heldOf}
 use Rattle.model.specs.WellFormed.{WellFormed}
 use Rattle.model.specs.Step.{inner, Result, resultOf}
 use Rattle.model.proofs.Walk.{iter-means}
 use Rattle.model.proofs.Tail.{tail-ones-means}
 use Rattle.sparse_matrix.specs.Lent.{fullOf}
+use Rattle.sparse_matrix.specs.Refused.{refusalOf}
+use Rattle.sparse_matrix.proofs.Refuses.{past}
 use Rattle.sparse_matrix.proofs.QueryPlaces.{row-mapped, tail-in}
 
 -- a refusal leaves all as it was
@@ -38,9 +41,8 @@ abbrev pub lists : List ℕ → Full → Result
 lists l f = record { reply = ok l; after = fullOf (f .store) (over l (f .answers)) }
 
 -- .. is what the code leaves there, and its length
-pub listed-is : (f : Full) (l m : List ℕ) (n : ℕ) → n ≡ length l → m ≡ over l (f .answers) → record { reply = ok (take n m); after = fullOf (f .store) m } ≡ lists l f
-unfolding over
-listed-is f l m n en em = rw (em, en, take-at l (drop (length l) (f .answers)) (length l) refl)
+pub listed-is : (f : Full) (l m : List ℕ) (n : ℕ) → n ≡ length l → m ≡ over l (f .answers) → record { reply = ok (stretch m 0 n); after = fullOf (f .store) m } ≡ lists l f
+listed-is f l m n en em = rw (em, en, over-read l (f .answers))
 
 -- ---- ITER
 module _ (p : RowRange) (f : Full) where
@@ -83,8 +85,26 @@ module _ (p : RowRange) (f : Full) where
 
         pub iter-is : (n : ℕ) (m : List ℕ)
             → (n ≡ length (walked (f .store .columns .logicals) (p .a) (p .b) l)) × (m ≡ over (walked (f .store .columns .logicals) (p .a) (p .b) l) (f .answers))
-            → record { reply = ok (take n m); after = fullOf (f .store) m } ≡ resultOf f (inner (Iter p) f)
+            → record { reply = ok (stretch m 0 n); after = fullOf (f .store) m } ≡ resultOf f (inner (Iter p) f)
         iter-is n m q = listed-is f (walked (f .store .columns .logicals) (p .a) (p .b) l) m n (q .0) (q .1) ∙ iter-done
+
+-- nothing refuses ITER
+module _ (p : RowRange) (f : Full) (v : WellFormed (f .store)) (free : 0 ≡ refusalOf (inner (Iter p) f)) where
+  passed : (passes (checks (Iter p) (tableOf (f .store))) ≡ true) × (passes (roomChecks (heldOf f .room) (Iter p) (tableOf (f .store))) ≡ true)
+  passed = past (Iter p) f free
+
+  pub iter-low : p .r < f .store .head .h
+  iter-low = leb-false (f .store .head .h) (p .r) (quiet-first (leb (f .store .head .h) (p .r)) (not (ltb (edge (f .store)) (p .b)) && true) (passed .0))
+
+  pub iter-sparse : p .b ≤ edge (f .store)
+  iter-sparse =
+      ltb-false (edge (f .store)) (p .b)
+      (quiet-first (ltb (edge (f .store)) (p .b)) true (quiet-rest (leb (f .store .head .h) (p .r)) (not (ltb (edge (f .store)) (p .b)) && true) (passed .0)))
+
+  pub iter-fits : (y : ℕ) (l : List ℕ) → y ≡ homeRow (f .store) (p .r) → l ≡ row (f .store) y → length (walked (f .store .columns .logicals) (p .a) (p .b) l) ≤ length (f .answers)
+  iter-fits y l ey el =
+      rw (sym (walk-is p f iter-low v iter-sparse y l ey el))
+      (ltb-false (length (f .answers)) (length (answer (Iter p) (tableOf (f .store)))) (quiet-first (ltb (length (f .answers)) (length (answer (Iter p) (tableOf (f .store))))) true (passed .1)))
 
 -- ---- TAILONES
 
@@ -161,5 +181,29 @@ module _ (p : RowTail) (f : Full) where
 
           pub tail-is : (n : ℕ) (m : List ℕ)
               → (n ≡ length (tailOnes (f .store .words) (f .store .head .n) i (edge (f .store)))) × (m ≡ over (tailOnes (f .store .words) (f .store .head .n) i (edge (f .store))) (f .answers))
-              → record { reply = ok (take n m); after = fullOf (f .store) m } ≡ resultOf f (inner (TailOnes p) f)
+              → record { reply = ok (stretch m 0 n); after = fullOf (f .store) m } ≡ resultOf f (inner (TailOnes p) f)
           tail-is n m q = listed-is f (tailOnes (f .store .words) (f .store .head .n) i (edge (f .store))) m n (q .0) (q .1) ∙ tail-done
+
+-- nothing refuses TAILONES
+module _ (p : RowTail) (f : Full) (v : WellFormed (f .store)) (free : 0 ≡ refusalOf (inner (TailOnes p) f)) where
+  let-through : (passes (checks (TailOnes p) (tableOf (f .store))) ≡ true) × (passes (roomChecks (heldOf f .room) (TailOnes p) (tableOf (f .store))) ≡ true)
+  let-through = past (TailOnes p) f free
+
+  apart : not (eqb (p .a) (edge (f .store))) || eqb (f .store .head .n) 0 ≡ false
+  apart =
+      quiet-first (not (eqb (p .a) (edge (f .store))) || eqb (f .store .head .n) 0) true
+      (quiet-rest (leb (f .store .head .h) (p .r)) (not (not (eqb (p .a) (edge (f .store))) || eqb (f .store .head .n) 0) && true) (let-through .0))
+
+  pub tail-low : p .r < f .store .head .h
+  tail-low = leb-false (f .store .head .h) (p .r) (quiet-first (leb (f .store .head .h) (p .r)) (not (not (eqb (p .a) (edge (f .store))) || eqb (f .store .head .n) 0) && true) (let-through .0))
+
+  pub tail-first : p .a ≡ edge (f .store)
+  tail-first = eqb-true (p .a) (edge (f .store)) (not-false (eqb (p .a) (edge (f .store))) (or-first (not (eqb (p .a) (edge (f .store)))) (eqb (f .store .head .n) 0) apart))
+
+  pub tail-some : f .store .head .n ≡ 0 → ⊥
+  tail-some = eqb-false (f .store .head .n) 0 (or-second (not (eqb (p .a) (edge (f .store)))) (eqb (f .store .head .n) 0) apart)
+
+  pub tail-fits : (y i : ℕ) → y ≡ homeRow (f .store) (p .r) → i ≡ y → length (tailOnes (f .store .words) (f .store .head .n) i 0) ≤ length (f .answers)
+  tail-fits y i ey ei =
+      rw (base-free (f .store .words) (f .store .head .n) i (edge (f .store)), sym (ones-are p f tail-low v tail-first tail-some y i ey ei))
+      (ltb-false (length (f .answers)) (length (answer (TailOnes p) (tableOf (f .store)))) (quiet-first (ltb (length (f .answers)) (length (answer (TailOnes p) (tableOf (f .store))))) true (let-through .1)))

@@ -1,5 +1,5 @@
 -- The number of a refusal, 0 for none: where it is 0 every check passes and the call is done, else it is what the caller is told. Assumes nothing.
-use mathlib.Core.Path.{_≡_, refl, ap}
+use mathlib.Core.Path.{_≡_, refl, sym, ap}
 use mathlib.Core.Bool.{true, false}
 use mathlib.Core.List.{List, [], _∷_}
 use Prim.Native.Nat.{ℕ, _<_}
@@ -10,13 +10,16 @@ use Rattle.table.specs.Step.{checks, answer}
 use Rattle.table.specs.Room.{roomChecks, allChecks, passes}
 use Rattle.table.specs.Run.{ok, nay}
 use Rattle.table.proofs.Checks.{pass}
-use Rattle.model.specs.Store.{Full, tableOf, heldOf}
+use Rattle.model.specs.Store.{Store, Full, tableOf, heldOf}
 use Rattle.model.specs.Step.{Result, fullAfter, inner, resultOf}
 use Rattle.model.proofs.EveryStepIsTheTables.{passes-append}
+use Rattle.sparse_matrix.specs.Lent.{fullOf}
 use Rattle.sparse_matrix.specs.Refused.{refusalOf}
+use Rattle.sparse_matrix.proofs.Ends.{Refuses, Leaves}
+use Rattle.sparse_matrix.proofs.Replies.{numberIn, never}
 
 -- no refusal has the number 0
-counted : (k : Refusal) → 0 < number k
+pub counted : (k : Refusal) → 0 < number k
 counted DAMAGED = omega arith
 counted SIZE = omega arith
 counted BUFFERS = omega arith
@@ -59,3 +62,34 @@ told (done u a) f k e n = absurd (n e)
 -- refused: the caller is told the number, and nothing is changed
 pub refuses : (o : Op) (f : Full) (k : ℕ) → k ≡ refusalOf (inner o f) → (k ≡ 0 → ⊥) → _≡_ {A = Result} (record { reply = nay k; after = f }) (resultOf f (inner o f))
 refuses o f k e n = told (inner o f) f k e n
+
+-- ---- the number alone
+
+-- told a number: it is the refusal's
+of-refused : (v : Verdict Full) (f : Full) (k : ℕ) → _≡_ {A = Result} (record { reply = nay k; after = f }) (resultOf f v) → k ≡ refusalOf v
+unfolding numberIn
+of-refused (refused j) f k e = ap (λ (r : Result). numberIn (r .reply)) e
+of-refused (done u a) f k e = never a k (ap (λ (r : Result). r .reply) (sym e))
+
+-- told that it is done: there is none
+of-done : (v : Verdict Full) (f g : Full) (l : List ℕ) → _≡_ {A = Result} (record { reply = ok l; after = g }) (resultOf f v) → 0 ≡ refusalOf v
+of-done (refused j) f g l e = never l j (ap (λ (r : Result). r .reply) e)
+of-done (done u a) f g l e = refl
+
+pub number-told : (o : Op) (f : Full) (k : ℕ) → _≡_ {A = Result} (record { reply = nay k; after = f }) (resultOf f (inner o f)) → k ≡ refusalOf (inner o f)
+number-told o f k e = of-refused (inner o f) f k e
+
+pub none-told : (o : Op) (f g : Full) (l : List ℕ) → _≡_ {A = Result} (record { reply = ok l; after = g }) (resultOf f (inner o f)) → 0 ≡ refusalOf (inner o f)
+none-told o f g l e = of-done (inner o f) f g l e
+
+pub number-of : (o : Op) (s : Store) (k : ℕ) → Refuses inner o s k → k ≡ refusalOf (inner o (fullOf s []))
+number-of o s k e = number-told o (fullOf s []) k e
+
+pub none-of : (o : Op) (s u : Store) → Leaves inner o s u → 0 ≡ refusalOf (inner o (fullOf s []))
+none-of o s u e = none-told o (fullOf s []) (fullOf u []) [] e
+
+-- the checks alone decide it
+pub same-number : (cs : List Check) (f g : Full) (a b : List ℕ) → refusalOf (outcome cs (done f a)) ≡ refusalOf (outcome cs (done g b))
+same-number [] f g a b = refl
+same-number ((k when true) ∷ cs) f g a b = refl
+same-number ((k when false) ∷ cs) f g a b = same-number cs f g a b

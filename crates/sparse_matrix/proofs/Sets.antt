@@ -2,7 +2,7 @@
 use mathlib.Core.Path.{_≡_, refl, sym, ap, _∙_}
 use mathlib.Core.Bool.{Bool, true, false, not}
 use mathlib.Core.Logic.{_⊎_, inl, inr, ⊎-elim}
-use mathlib.Core.List.{List}
+use mathlib.Core.List.{List, []}
 use Prim.Native.Nat.{ℕ, _-_, _*_, _≤_, _<_}
 use native.Mathlib.Omega.{arith}
 use lib.Dec.{leb, eqb}
@@ -25,10 +25,14 @@ use Rattle.model.specs.Change.{withWords, setRow}
 use Rattle.model.specs.Step.{inner}
 use Rattle.model.proofs.Rows.{frame-of, row-fits}
 use Rattle.model.proofs.SetCell.{set-member, set-from}
+use Rattle.model.proofs.Passed.{CanSet, can-set}
 use Rattle.model.proofs.Rows.{words-fit}
 use Rattle.model.proofs.Walk.{list-count, sparse-bit, row-count}
-use Rattle.sparse_matrix.proofs.Ends.{Refuses, Leaves}
+use Rattle.sparse_matrix.specs.Lent.{fullOf}
+use Rattle.sparse_matrix.specs.Refused.{refusalOf}
 use Rattle.sparse_matrix.specs.Changes.{RowKept}
+use Rattle.sparse_matrix.proofs.Ends.{Refuses, Leaves}
+use Rattle.sparse_matrix.proofs.Refuses.{past}
 
 -- a store with other row lists
 abbrev withSlots : Store → Slots → Store
@@ -175,3 +179,24 @@ module _ (s : Store) (p : SetCell) where
               le-ltb (s .head .slots) (getD (s .slots .counts) (homeRow s (p .r)) 0) (v .rows .room (homeRow s (p .r)) home-in),
               le-ltb (p .c) (edge s) high,
             )
+
+-- ---- nothing refuses
+module _ (s : Store) (v : WellFormed s) (p : SetCell) (free : 0 ≡ refusalOf (inner (Set p) (fullOf s []))) where
+  can : CanSet s p
+  can = let b = past (Set p) (fullOf s []) free in can-set (fullOf s []) v p (b .0) (b .1)
+
+  pub row-low : p .r < s .head .h
+  row-low = can .row-in
+
+  pub column-low : p .c < s .head .w
+  column-low = can .column-in
+
+  module _ (low : p .c < edge s) (a i z : ℕ) (home : a ≡ homeRow s (p .r)) (is : i ≡ p .c) (column : z ≡ getD (s .columns .homes) i 0) where
+    pub has-slot : length (setRow (one p) z (row s a)) ≤ s .head .slots
+    has-slot = rw (column, is, home) (can .sparse low .1)
+
+    pub sparse-done : (entries counts : List ℕ)
+        → (entries ≡ putRow (s .slots .entries) (a * s .head .slots) (s .head .slots) (setRow (one p) z (row s a)))
+        × (counts ≡ set (s .slots .counts) a (length (setRow (one p) z (row s a))))
+        → Leaves inner (Set p) s (withSlots s (record { entries = entries; counts = counts }))
+    sparse-done = set-sparse s p row-low v low a i z home is column (can .sparse low .0) true (sym (le-leb (length (setRow (one p) z (row s a))) (s .head .slots) has-slot)) refl

@@ -1,6 +1,7 @@
 -- SWAPR and SWAPC on a well-formed store, one law for each way out. Assumes nothing.
-use mathlib.Core.Path.{_≡_}
-use mathlib.Core.List.{List}
+use mathlib.Core.Path.{_≡_, _∙_}
+use mathlib.Core.Bool.{true}
+use mathlib.Core.List.{List, []}
 use Prim.Native.Nat.{ℕ, _≤_, _<_}
 use native.Mathlib.Omega.{arith}
 use borrow.Author.Tests.{le-leb, lt-leb}
@@ -8,10 +9,15 @@ use Rattle.laws.specs.Maps.{Inverse}
 use Rattle.permutation.specs.Maps.{CanSwap, swapped, turned}
 use Rattle.table.specs.declared.Two.{Two}
 use Rattle.table.specs.declared.Op.the-variants.{SwapR, SwapC}
-use Rattle.model.specs.Store.{Store, Maps, edge}
+use Rattle.table.specs.Room.{allChecks}
+use Rattle.model.specs.Store.{Head, Store, Maps, edge, heldOf}
 use Rattle.model.specs.WellFormed.{WellFormed}
-use Rattle.model.specs.Step.{inner}
-use Rattle.sparse_matrix.proofs.Ends.{Refuses, Leaves}
+use Rattle.model.specs.Step.{fullAfter, inner}
+use Rattle.model.proofs.Passed.{can-swapr, can-swapc}
+use Rattle.sparse_matrix.specs.Lent.{fullOf}
+use Rattle.sparse_matrix.specs.Refused.{refusalOf}
+use Rattle.sparse_matrix.proofs.Ends.{Refuses, Leaves, overHead}
+use Rattle.sparse_matrix.proofs.Refuses.{past, same-number}
 
 -- a store with other maps
 abbrev withRows : Store → Maps → Store
@@ -33,9 +39,6 @@ maps-can k m v i j hi hj =
 -- a sparse column has a number of 16 bits
 pub column-can : (s : Store) → WellFormed s → (c : ℕ) → c < edge s → c < 65536
 column-can s v c h = omega (arith, v .maps .wide, v .limits .width)
-
-pub columns-can : (s : Store) → WellFormed s → (i j a b : ℕ) → a ≡ i → b ≡ j → i < edge s → j < edge s → CanSwap (s .columns .homes) (s .columns .logicals) a b
-columns-can s v i j a b x y hi hj = maps-can (s .head .made) (s .columns) (v .maps .columns) a b (omega (arith, v .maps .wide)) (omega (arith, v .maps .wide))
 
 module _ (s : Store) (p : Two) where
   -- ---- rows
@@ -76,3 +79,21 @@ module _ (s : Store) (p : Two) where
   unfolding inner
   columns-done homes logicals i j x y a b ei ej =
       rw (a, b, x, y, lt-leb (s .head .w) (p .i) (omega arith), lt-leb (s .head .w) (p .j) (omega arith), lt-leb (edge s) (p .i) ei, lt-leb (edge s) (p .j) ej)
+
+-- ---- the head alone decides
+module _ (s : Store) (p : Two) (k : ℕ) where
+  pub rows-by-head : k ≡ refusalOf (inner (SwapR p) (fullOf (overHead (s .head)) [])) → k ≡ refusalOf (inner (SwapR p) (fullOf s []))
+  unfolding inner
+  rows-by-head q = q ∙ same-number (allChecks true (SwapR p) (heldOf (fullOf s []))) (fullAfter (SwapR p) (fullOf (overHead (s .head)) [])) (fullAfter (SwapR p) (fullOf s [])) [] []
+
+  pub columns-by-head : k ≡ refusalOf (inner (SwapC p) (fullOf (overHead (s .head)) [])) → k ≡ refusalOf (inner (SwapC p) (fullOf s []))
+  unfolding inner
+  columns-by-head q = q ∙ same-number (allChecks true (SwapC p) (heldOf (fullOf s []))) (fullAfter (SwapC p) (fullOf (overHead (s .head)) [])) (fullAfter (SwapC p) (fullOf s [])) [] []
+
+-- ---- nothing refuses
+module _ (s : Store) (v : WellFormed s) (p : Two) where
+  pub rows-in : 0 ≡ refusalOf (inner (SwapR p) (fullOf s [])) → (p .i < s .head .h) × (p .j < s .head .h)
+  rows-in free = can-swapr (fullOf s []) v p (past (SwapR p) (fullOf s []) free .0)
+
+  pub columns-in : 0 ≡ refusalOf (inner (SwapC p) (fullOf s [])) → (p .i < edge s) × (p .j < edge s)
+  columns-in free = can-swapc (fullOf s []) v p (past (SwapC p) (fullOf s []) free .0)

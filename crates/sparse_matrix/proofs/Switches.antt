@@ -1,7 +1,7 @@
 -- ON and OFF on a well-formed store: what the index does not use is zero, and one law for each way out. Assumes nothing.
 use mathlib.Core.Path.{_≡_, _∙_}
 use mathlib.Core.Bool.{true, false}
-use mathlib.Core.List.{List}
+use mathlib.Core.List.{List, []}
 use Prim.Native.Nat.{ℕ, _+_, _-_, _≤_, _<_}
 use native.Mathlib.Omega.{arith}
 use lib.ListN.{length, getD}
@@ -17,7 +17,11 @@ use Rattle.model.specs.Change.{withIndex}
 use Rattle.model.specs.Step.{inner}
 use Rattle.model.proofs.Walk.{all-ones}
 use Rattle.model.proofs.Switch.{index-rows}
+use Rattle.model.proofs.Passed.{can-on}
+use Rattle.sparse_matrix.specs.Lent.{fullOf}
+use Rattle.sparse_matrix.specs.Refused.{refusalOf}
 use Rattle.sparse_matrix.proofs.Ends.{Refuses, Leaves}
+use Rattle.sparse_matrix.proofs.Refuses.{past}
 use Rattle.sparse_matrix.proofs.Clears.{all-clear}
 
 -- what the index uses, on or off: the entries up to the last start, the starts and marks of the columns. All others are zero
@@ -96,3 +100,7 @@ module _ (s : Store) (v : WellFormed s) where
         b ∙ all-clear (s .index .entries) (getD (s .index .starts) (s .head .made) 0) (tidy .end) (tidy .entries),
         c ∙ all-clear (s .index .starts) (s .head .made + 1) (starts-in .in-it) (tidy .starts),
       )
+
+  -- ---- nothing refuses ON
+  pub on-room : 0 ≡ refusalOf (inner On (fullOf s [])) → onesOf (s .slots .counts) (s .head .h) ≤ length (s .index .entries)
+  on-room free = can-on (fullOf s []) v (past On (fullOf s []) free .1)

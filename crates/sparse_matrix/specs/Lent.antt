@@ -1,6 +1,6 @@
 -- The head and the lent slices as the model's store. Assumes nothing.
 use mathlib.Core.Bool.{Bool}
-use mathlib.Core.List.{List}
+use mathlib.Core.List.{List, []}
 use Prim.Native.Nat.{ℕ}
 use Rattle.model.specs.Store as model
 use Rattle.sparse_matrix.specs.declared.Head.{Head}
@@ -23,3 +23,7 @@ storeOf d slots counts rowHomes rowLogicals columnHomes columnLogicals marks sta
 
 abbrev pub fullOf : model.Store → List ℕ → model.Full
 fullOf s answers = record { store = s; answers = answers }
+
+-- a head over no numbers at all, for what looks at the head alone
+abbrev pub bareOf : Head → model.Store
+bareOf d = storeOf d [] [] [] [] [] [] [] [] [] []

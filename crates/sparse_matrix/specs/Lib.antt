@@ -5,3 +5,4 @@ pub mod Changes
 pub mod Refused
 pub mod Added
 pub mod Frozen
+pub mod Resized

@@ -2,8 +2,7 @@
 use mathlib.Core.Bool.{Bool, true, false}
 use mathlib.Core.List.{List, [], _∷_}
 use Prim.Native.Nat.{ℕ}
-use lib.ListN.{take}
-use Rattle.laws.specs.Parts.{part}
+use Rattle.laws.specs.Parts.{stretch}
 use Rattle.table.specs.Run.{Reply, ok, nay}
 use Rattle.model.specs.Store as model
 use Rattle.model.specs.Step.{Result}
@@ -18,7 +17,7 @@ use Rattle.sparse_matrix.specs.declared.Sized.{Sized}
 use Rattle.sparse_matrix.specs.declared.Sized.the-variants as sized
 use Rattle.sparse_matrix.specs.Lent.{storeOf, fullOf}
 
--- GET, COUNT, and WORDS' call that answers or refuses: one number
+-- GET, COUNT: one number
 abbrev pub numberSays : Number → Reply
 numberSays (numbered.Is x) = ok (x ∷ [])
 numberSays (numbered.No k) = nay k
@@ -28,9 +27,9 @@ abbrev pub sizeSays : Sized → Reply
 sizeSays (sized.Is p) = ok (p .h ∷ p .w ∷ p .n ∷ [])
 sizeSays (sized.No k) = nay k
 
--- ITER, TAILONES, COLONES: the list in the first places of the answer buffer, and the buffer as it is left
+-- ITER, TAILONES, COLONES: the list in the first places of the answer buffer, as long as the count says, and the buffer as it is left
 abbrev pub listTold : model.Store → Listed → List ℕ → Result
-listTold s (listed.Count c) answers = record { reply = ok (take c answers); after = fullOf s answers }
+listTold s (listed.Count c) answers = record { reply = ok (stretch answers 0 c); after = fullOf s answers }
 listTold s (listed.No k) answers = record { reply = nay k; after = fullOf s answers }
 
 -- an operation that changes the store: the new head over the numbers as they are left, or the old one
@@ -40,7 +39,7 @@ changedTold d (changed.No k) left = record { reply = nay k; after = fullOf (left
 
 -- WORDS, the call that answers or refuses: the words from place `at` on, as many as it says
 abbrev pub wordsSays : List ℕ → ℕ → Number → Reply
-wordsSays words at (numbered.Is c) = ok (part words at c)
+wordsSays words at (numbered.Is c) = ok (stretch words at c)
 wordsSays words at (numbered.No k) = nay k
 
 -- WORDS, the call that hands back the part: "empty when refused"

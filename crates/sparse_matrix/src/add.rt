@@ -1,6 +1,7 @@
-// ADD: row d becomes the sum of rows d and s over bits. "Nothing is written" before every refusal is decided.
+// ADD: row d becomes the sum of rows d and s over bits. Nothing is written before every refusal is decided.
 use crate::Changed;
 use crate::Head;
+use crate::places;
 use crate::refusals;
 use permutation::LogicalRow;
 use sparse_vec::Sum;
@@ -29,19 +30,12 @@ fn home(row_homes: &[u32], r: u32) -> usize
     y.0 as usize
 }
 
-// A home column as a place.
-fn place(z: u16) -> usize
-    ensures { λ r. ⌜ r ≡ z ⌝ }
-{
-    z as usize
-}
-
 // How many numbers home row `y` lists.
 fn count_of(counts: &[u16], y: usize) -> usize
     requires { ⌜ y < length (now counts) ⌝ }
     ensures { λ r. ⌜ r ≡ getD (now (counts .entry)) y 0 ⌝ }
 {
-    place(counts[y])
+    places::wide(counts[y])
 }
 
 // Whether a start is neither 0 nor the first tail column.
@@ -100,7 +94,7 @@ fn spend(slots: &[u16], marks: &mut [u8], all: bool, on: bool, k: usize, x: usiz
         return;
     }
     let at = x * k;
-    let z = place(slots[at]);
+    let z = places::wide(slots[at]);
     marks[z] = 1;
 }
 
@@ -122,7 +116,7 @@ fn add_lists(slots: &mut [u16], counts: &mut [u16], all: bool, k: usize, y: usiz
 
 impl Head {
     // The refusal of ADD, and 0 where there is none: 4 a row past the height, 6 a start between, 7 the same row, then those of the sum.
-    fn refuse_add(
+    pub fn refuse_add(
         self,
         slots: &[u16],
         counts: &[u16],

@@ -22,27 +22,13 @@ ghost use Rattle.sparse_matrix.specs.Told.{changedTold};
 ghost use Rattle.sparse_matrix.specs.Refused.{refusalOf};
 ghost use Rattle.sparse_matrix.specs.Frozen.{freezing, CanTake};
 
-// A row's number as a place.
-fn place(y: u32) -> usize
-    ensures { λ r. ⌜ r ≡ y ⌝ }
-{
-    y as usize
-}
-
-// A count or a home column as a place.
-fn wide(n: u16) -> usize
-    ensures { λ r. ⌜ r ≡ n ⌝ }
-{
-    n as usize
-}
-
 // How many words `h` rows of one column more have.
 fn words_wanted(h: u32, n: u32) -> usize
     requires { ⌜ (h ≤ 65535) × (n ≤ 65535) ⌝ }
     ensures { λ r. ⌜ r ≡ h * wordsFor (suc n) ⌝ }
 {
     let size = tail::words_for(n + 1);
-    place(h) * size
+    places::place(h) * size
 }
 
 // Takes `z` out of home row `y`, and answers whether it was there.
@@ -51,7 +37,7 @@ fn take_out(slots: &mut [u16], counts: &mut [u16], k: usize, y: usize, z: u16) -
     ensures { λ r. ⌜ (r ≡ member z (rowOf (now (slots .entry)) (now (counts .entry)) k y)) × ((now (slots .exit) ≡ pick (member z (rowOf (now (slots .entry)) (now (counts .entry)) k y)) (putRow (now (slots .entry)) (y * k) k (takeOut z (rowOf (now (slots .entry)) (now (counts .entry)) k y))) (now (slots .entry))) × (now (counts .exit) ≡ pick (member z (rowOf (now (slots .entry)) (now (counts .entry)) k y)) (set (now (counts .entry)) y (length (takeOut z (rowOf (now (slots .entry)) (now (counts .entry)) k y)))) (now (counts .entry)))) ⌝ }
 {
     let at = y * k;
-    let n = wide(counts[y]);
+    let n = places::wide(counts[y]);
     if !sparse_vec::get(&slots[at..at + n], z) {
         return false;
     }
@@ -73,7 +59,7 @@ fn put_first(words: &mut [u64], n: u32, y: usize, had: bool)
 
 impl Head {
     // The refusal of FREEZE, and 0 where there is none: 5 past the width, 6 not the last sparse column, 9 the index off, 13 too few words.
-    fn refuse_freeze(
+    pub fn refuse_freeze(
         self,
         slots: &[u16],
         counts: &[u16],
@@ -130,10 +116,10 @@ impl Head {
         let x = z.0;
         tail::grow(words, self.n, self.h as usize);
         let n = self.n + 1;
-        let list = arraymap::get(starts, entries, wide(x));
+        let list = arraymap::get(starts, entries, places::wide(x));
         let mut i = 0;
         while i < list.len() {
-            let y = place(list[i]);
+            let y = places::place(list[i]);
             let had = take_out(slots, counts, k, y, x);
             put_first(words, n, y, had);
             i += 1;

@@ -9,9 +9,10 @@ ghost use lib.ListN.{length};
 ghost use Rattle.laws.specs.Parts.{zeros};
 ghost use Rattle.table.specs.declared.Op.the-variants.{Make};
 ghost use Rattle.table.specs.Room.{short};
-ghost use Rattle.model.specs.Step.{step, resultOf};
+ghost use Rattle.model.specs.Step.{step, inner, resultOf};
 ghost use Rattle.sparse_matrix.specs.Lent.{storeOf, fullOf};
 ghost use Rattle.sparse_matrix.specs.Told.{changedTold};
+ghost use Rattle.sparse_matrix.specs.Refused.{refusalOf};
 ghost use Rattle.sparse_matrix.specs.Changes.{sizes, outside, lentBy};
 
 // How many numbers are lent in each buffer that MAKE asks for.
@@ -78,6 +79,52 @@ fn clear_index(marks: &mut [u8], starts: &mut [u64], entries: &mut [u32])
 }
 
 impl Head {
+    // The refusal of MAKE, and 0 where there is none: 2 outside the limits, 3 where a buffer is too short. The numbers in the buffers count for nothing.
+    pub fn refuse_make(
+        self,
+        slots: &[u16],
+        counts: &[u16],
+        row_homes: &[u32],
+        row_logicals: &[u32],
+        column_homes: &[u16],
+        column_logicals: &[u16],
+        marks: &[u8],
+        starts: &[u64],
+        entries: &[u32],
+        words: &[u64],
+        h: u32,
+        w: u32,
+        n: u32,
+        per_row: u32,
+    ) -> u32
+        ensures { λ k. ⌜ k ≡ refusalOf (inner (Make (sizes h w n «per_row»)) (fullOf (storeOf self (now (slots .entry)) (now (counts .entry)) (now («row_homes» .entry)) (now («row_logicals» .entry)) (now («column_homes» .entry)) (now («column_logicals» .entry)) (now (marks .entry)) (now (starts .entry)) (now (entries .entry)) (now (words .entry))) [])) ⌝ }
+    {
+        let p = Sizes {
+            h: h,
+            w: w,
+            n: n,
+            slots: per_row,
+        };
+        if outside_limits(p) {
+            return refusals::SIZE;
+        }
+        let lent = Lengths {
+            slots: slots.len(),
+            counts: counts.len(),
+            row_homes: row_homes.len(),
+            row_logicals: row_logicals.len(),
+            column_homes: column_homes.len(),
+            column_logicals: column_logicals.len(),
+            marks: marks.len(),
+            starts: starts.len(),
+            words: words.len(),
+        };
+        if too_short(lent, p) {
+            return refusals::BUFFERS;
+        }
+        0
+    }
+
     // MAKE: "all zero, homes equal, index off", or refused with 2 or 3. `per_row` is MAKE's slots.
     pub fn new(
         self,
@@ -98,28 +145,24 @@ impl Head {
     ) -> Changed
         ensures { λ x. ⌜ changedTold self x (λ d. storeOf d (now (slots .exit)) (now (counts .exit)) (now («row_homes» .exit)) (now («row_logicals» .exit)) (now («column_homes» .exit)) (now («column_logicals» .exit)) (now (marks .exit)) (now (starts .exit)) (now (entries .exit)) (now (words .exit))) ≡ resultOf (fullOf (storeOf self (now (slots .entry)) (now (counts .entry)) (now («row_homes» .entry)) (now («row_logicals» .entry)) (now («column_homes» .entry)) (now («column_logicals» .entry)) (now (marks .entry)) (now (starts .entry)) (now (entries .entry)) (now (words .entry))) []) (step (Make (sizes h w n «per_row»)) (fullOf (storeOf self (now (slots .entry)) (now (counts .entry)) (now («row_homes» .entry)) (now («row_logicals» .entry)) (now («column_homes» .entry)) (now («column_logicals» .entry)) (now (marks .entry)) (now (starts .entry)) (now (entries .entry)) (now (words .entry))) [])) ⌝ }
     {
-        let p = Sizes {
-            h: h,
-            w: w,
-            n: n,
-            slots: per_row,
-        };
-        if outside_limits(p) {
-            return Changed::No(refusals::SIZE);
-        }
-        let lent = Lengths {
-            slots: slots.len(),
-            counts: counts.len(),
-            row_homes: row_homes.len(),
-            row_logicals: row_logicals.len(),
-            column_homes: column_homes.len(),
-            column_logicals: column_logicals.len(),
-            marks: marks.len(),
-            starts: starts.len(),
-            words: words.len(),
-        };
-        if too_short(lent, p) {
-            return Changed::No(refusals::BUFFERS);
+        let no = self.refuse_make(
+            slots,
+            counts,
+            row_homes,
+            row_logicals,
+            column_homes,
+            column_logicals,
+            marks,
+            starts,
+            entries,
+            words,
+            h,
+            w,
+            n,
+            per_row,
+        );
+        if no != 0 {
+            return Changed::No(no);
         }
         clear_rows(slots, counts, words);
         clear_index(marks, starts, entries);

@@ -37,8 +37,15 @@ pub fn bit(b: bool) -> u32
     if b { 1 } else { 0 }
 }
 
-// A count of a row as a length.
-fn length_of(n: u16) -> usize
+// A row's number as a place, a height as a length.
+pub fn place(y: u32) -> usize
+    ensures { λ x. ⌜ x ≡ y ⌝ }
+{
+    y as usize
+}
+
+// A home column's number as a place, a row's count as a length.
+pub fn wide(n: u16) -> usize
     ensures { λ x. ⌜ x ≡ n ⌝ }
 {
     n as usize
@@ -51,6 +58,6 @@ pub fn row<'a>(slots: &'a [u16], counts: &[u16], width: u32, y: HomeRow) -> &'a 
 {
     let i = row_place(y);
     let at = i * width as usize;
-    let len = length_of(counts[i]);
+    let len = wide(counts[i]);
     &slots[at..at + len]
 }

@@ -13,6 +13,8 @@ pub const SIDE: u32 = 6;
 
 pub const SAME: u32 = 7;
 
+pub const SHRINK: u32 = 8;
+
 pub const PHASE: u32 = 9;
 
 pub const SINGLE: u32 = 10;

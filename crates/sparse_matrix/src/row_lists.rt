@@ -11,8 +11,44 @@ ghost use Rattle.model.specs.WellFormed.{WellFormed};
 ghost use Rattle.model.specs.Step.{inner, resultOf};
 ghost use Rattle.sparse_matrix.specs.Lent.{storeOf, fullOf};
 ghost use Rattle.sparse_matrix.specs.Told.{listTold};
+ghost use Rattle.sparse_matrix.specs.Refused.{refusalOf};
 
 impl Head {
+    // The refusal of ITER, and 0 where there is none: 4 past the height, 6 where b is past the sparse columns, 15 where the list is longer than the buffer.
+    pub fn refuse_iter(
+        self,
+        slots: &[u16],
+        counts: &[u16],
+        row_homes: &[u32],
+        row_logicals: &[u32],
+        column_homes: &[u16],
+        column_logicals: &[u16],
+        marks: &[u8],
+        starts: &[u64],
+        entries: &[u32],
+        words: &[u64],
+        answers: &[u32],
+        r: u32,
+        a: u32,
+        b: u32,
+    ) -> u32
+        requires { ⌜ WellFormed (storeOf self (now slots) (now counts) (now «row_homes») (now «row_logicals») (now «column_homes») (now «column_logicals») (now marks) (now starts) (now entries) (now words)) ⌝ }
+        ensures { λ k. ⌜ k ≡ refusalOf (inner (Iter (record { r = r; a = a; b = b })) (fullOf (storeOf self (now (slots .entry)) (now (counts .entry)) (now («row_homes» .entry)) (now («row_logicals» .entry)) (now («column_homes» .entry)) (now («column_logicals» .entry)) (now (marks .entry)) (now (starts .entry)) (now (entries .entry)) (now (words .entry))) (now (answers .entry)))) ⌝ }
+    {
+        if self.h <= r {
+            return refusals::ROW;
+        }
+        if self.w - self.n < b {
+            return refusals::SIDE;
+        }
+        let y = permutation::home_row(row_homes, LogicalRow(r));
+        let row = places::row(slots, counts, self.slots, y);
+        if answers.len() < sparse_vec::count_in(row, column_logicals, a, b) {
+            return refusals::ANSWER;
+        }
+        0
+    }
+
     // ITER: the sparse columns a to b-1 that hold one in row r, by rising home number: the order of the row's list.
     pub fn get_row_iter_in(
         self,
@@ -34,19 +70,66 @@ impl Head {
         requires { ⌜ WellFormed (storeOf self (now slots) (now counts) (now «row_homes») (now «row_logicals») (now «column_homes») (now «column_logicals») (now marks) (now starts) (now entries) (now words)) ⌝ }
         ensures { λ x. ⌜ listTold (storeOf self (now (slots .entry)) (now (counts .entry)) (now («row_homes» .entry)) (now («row_logicals» .entry)) (now («column_homes» .entry)) (now («column_logicals» .entry)) (now (marks .entry)) (now (starts .entry)) (now (entries .entry)) (now (words .entry))) x (now (answers .exit)) ≡ resultOf (fullOf (storeOf self (now (slots .entry)) (now (counts .entry)) (now («row_homes» .entry)) (now («row_logicals» .entry)) (now («column_homes» .entry)) (now («column_logicals» .entry)) (now (marks .entry)) (now (starts .entry)) (now (entries .entry)) (now (words .entry))) (now (answers .entry))) (inner (Iter (record { r = r; a = a; b = b })) (fullOf (storeOf self (now (slots .entry)) (now (counts .entry)) (now («row_homes» .entry)) (now («row_logicals» .entry)) (now («column_homes» .entry)) (now («column_logicals» .entry)) (now (marks .entry)) (now (starts .entry)) (now (entries .entry)) (now (words .entry))) (now (answers .entry)))) ⌝ }
     {
-        if self.h <= r {
-            return Listed::No(refusals::ROW);
-        }
-        if self.w - self.n < b {
-            return Listed::No(refusals::SIDE);
+        let no = self.refuse_iter(
+            slots,
+            counts,
+            row_homes,
+            row_logicals,
+            column_homes,
+            column_logicals,
+            marks,
+            starts,
+            entries,
+            words,
+            answers,
+            r,
+            a,
+            b,
+        );
+        if no != 0 {
+            return Listed::No(no);
         }
         let y = permutation::home_row(row_homes, LogicalRow(r));
         let row = places::row(slots, counts, self.slots, y);
-        if answers.len() < sparse_vec::count_in(row, column_logicals, a, b) {
-            return Listed::No(refusals::ANSWER);
-        }
         let n = sparse_vec::walk(row, column_logicals, a, b, answers);
-        Listed::Count(n as u32)
+        let listed = n as u32;
+        Listed::Count(listed)
+    }
+
+    // The refusal of TAILONES, and 0 where there is none: 4 past the height, 6 where a is not the first tail column or there is none, 15 as for ITER.
+    pub fn refuse_tail_ones(
+        self,
+        slots: &[u16],
+        counts: &[u16],
+        row_homes: &[u32],
+        row_logicals: &[u32],
+        column_homes: &[u16],
+        column_logicals: &[u16],
+        marks: &[u8],
+        starts: &[u64],
+        entries: &[u32],
+        words: &[u64],
+        answers: &[u32],
+        r: u32,
+        a: u32,
+    ) -> u32
+        requires { ⌜ WellFormed (storeOf self (now slots) (now counts) (now «row_homes») (now «row_logicals») (now «column_homes») (now «column_logicals») (now marks) (now starts) (now entries) (now words)) ⌝ }
+        ensures { λ k. ⌜ k ≡ refusalOf (inner (TailOnes (record { r = r; a = a })) (fullOf (storeOf self (now (slots .entry)) (now (counts .entry)) (now («row_homes» .entry)) (now («row_logicals» .entry)) (now («column_homes» .entry)) (now («column_logicals» .entry)) (now (marks .entry)) (now (starts .entry)) (now (entries .entry)) (now (words .entry))) (now (answers .entry)))) ⌝ }
+    {
+        if self.h <= r {
+            return refusals::ROW;
+        }
+        if a != self.w - self.n {
+            return refusals::SIDE;
+        }
+        if self.n == 0 {
+            return refusals::SIDE;
+        }
+        let y = places::row_place(permutation::home_row(row_homes, LogicalRow(r)));
+        if answers.len() < tail::count(words, self.n, y) {
+            return refusals::ANSWER;
+        }
+        0
     }
 
     // TAILONES: the tail columns that hold one in row r, rising. The caller names the first of them, a.
@@ -69,18 +152,28 @@ impl Head {
         requires { ⌜ WellFormed (storeOf self (now slots) (now counts) (now «row_homes») (now «row_logicals») (now «column_homes») (now «column_logicals») (now marks) (now starts) (now entries) (now words)) ⌝ }
         ensures { λ x. ⌜ listTold (storeOf self (now (slots .entry)) (now (counts .entry)) (now («row_homes» .entry)) (now («row_logicals» .entry)) (now («column_homes» .entry)) (now («column_logicals» .entry)) (now (marks .entry)) (now (starts .entry)) (now (entries .entry)) (now (words .entry))) x (now (answers .exit)) ≡ resultOf (fullOf (storeOf self (now (slots .entry)) (now (counts .entry)) (now («row_homes» .entry)) (now («row_logicals» .entry)) (now («column_homes» .entry)) (now («column_logicals» .entry)) (now (marks .entry)) (now (starts .entry)) (now (entries .entry)) (now (words .entry))) (now (answers .entry))) (inner (TailOnes (record { r = r; a = a })) (fullOf (storeOf self (now (slots .entry)) (now (counts .entry)) (now («row_homes» .entry)) (now («row_logicals» .entry)) (now («column_homes» .entry)) (now («column_logicals» .entry)) (now (marks .entry)) (now (starts .entry)) (now (entries .entry)) (now (words .entry))) (now (answers .entry)))) ⌝ }
     {
-        if self.h <= r {
-            return Listed::No(refusals::ROW);
+        let no = self.refuse_tail_ones(
+            slots,
+            counts,
+            row_homes,
+            row_logicals,
+            column_homes,
+            column_logicals,
+            marks,
+            starts,
+            entries,
+            words,
+            answers,
+            r,
+            a,
+        );
+        if no != 0 {
+            return Listed::No(no);
         }
         let edge = self.w - self.n;
-        if a != edge || self.n == 0 {
-            return Listed::No(refusals::SIDE);
-        }
         let y = places::row_place(permutation::home_row(row_homes, LogicalRow(r)));
-        if answers.len() < tail::count(words, self.n, y) {
-            return Listed::No(refusals::ANSWER);
-        }
         let n = tail::ones(words, self.n, y, edge, answers);
-        Listed::Count(n as u32)
+        let ones = n as u32;
+        Listed::Count(ones)
     }
 }

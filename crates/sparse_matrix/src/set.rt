@@ -17,6 +17,7 @@ ghost use Rattle.model.specs.Change.{setRow};
 ghost use Rattle.model.specs.Step.{inner, resultOf};
 ghost use Rattle.sparse_matrix.specs.Lent.{storeOf, fullOf};
 ghost use Rattle.sparse_matrix.specs.Told.{changedTold};
+ghost use Rattle.sparse_matrix.specs.Refused.{refusalOf};
 ghost use Rattle.sparse_matrix.specs.Changes.{place, RowKept, CanSet};
 
 // Whether the row has room for what it holds after home column `z` is put in, or taken out where `v` is false.
@@ -59,6 +60,47 @@ fn change_row(slots: &mut [u16], counts: &mut [u16], y: usize, k: usize, z: u16,
 }
 
 impl Head {
+    // The refusal of SET, and 0 where there is none: 4 past the height, 5 past the width; of a sparse column 9 while the index is on, 12 where the row has no
+    // slot left for it.
+    pub fn refuse_set(
+        self,
+        slots: &[u16],
+        counts: &[u16],
+        row_homes: &[u32],
+        row_logicals: &[u32],
+        column_homes: &[u16],
+        column_logicals: &[u16],
+        marks: &[u8],
+        starts: &[u64],
+        entries: &[u32],
+        words: &[u64],
+        r: u32,
+        c: u32,
+        v: u8,
+    ) -> u32
+        requires { ⌜ WellFormed (storeOf self (now slots) (now counts) (now «row_homes») (now «row_logicals») (now «column_homes») (now «column_logicals») (now marks) (now starts) (now entries) (now words)) ⌝ }
+        ensures { λ k. ⌜ k ≡ refusalOf (inner (Set (place r c v)) (fullOf (storeOf self (now (slots .entry)) (now (counts .entry)) (now («row_homes» .entry)) (now («row_logicals» .entry)) (now («column_homes» .entry)) (now («column_logicals» .entry)) (now (marks .entry)) (now (starts .entry)) (now (entries .entry)) (now (words .entry))) [])) ⌝ }
+    {
+        if self.h <= r {
+            return refusals::ROW;
+        }
+        if self.w <= c {
+            return refusals::COLUMN;
+        }
+        if self.w - self.n <= c {
+            return 0;
+        }
+        if self.on {
+            return refusals::PHASE;
+        }
+        let y = places::row_place(permutation::home_row(row_homes, LogicalRow(r)));
+        let z = permutation::home_column(column_homes, places::column(c));
+        if !has_room(slots, counts, y, self.slots as usize, z.0, v != 0) {
+            return refusals::SLOTS;
+        }
+        0
+    }
+
     // SET: cell `r`, `c` becomes one, or zero where `v` is 0. Refused with 4, 5, 9 or 12; a tail column only with 4 or 5.
     pub fn set_in(
         self,
@@ -79,28 +121,32 @@ impl Head {
         requires { ⌜ WellFormed (storeOf self (now slots) (now counts) (now «row_homes») (now «row_logicals») (now «column_homes») (now «column_logicals») (now marks) (now starts) (now entries) (now words)) ⌝ }
         ensures { λ x. ⌜ changedTold self x (λ d. storeOf d (now (slots .exit)) (now (counts .exit)) (now («row_homes» .entry)) (now («row_logicals» .entry)) (now («column_homes» .entry)) (now («column_logicals» .entry)) (now (marks .entry)) (now (starts .entry)) (now (entries .entry)) (now (words .exit))) ≡ resultOf (fullOf (storeOf self (now (slots .entry)) (now (counts .entry)) (now («row_homes» .entry)) (now («row_logicals» .entry)) (now («column_homes» .entry)) (now («column_logicals» .entry)) (now (marks .entry)) (now (starts .entry)) (now (entries .entry)) (now (words .entry))) []) (inner (Set (place r c v)) (fullOf (storeOf self (now (slots .entry)) (now (counts .entry)) (now («row_homes» .entry)) (now («row_logicals» .entry)) (now («column_homes» .entry)) (now («column_logicals» .entry)) (now (marks .entry)) (now (starts .entry)) (now (entries .entry)) (now (words .entry))) [])) ⌝ }
     {
-        if self.h <= r {
-            return Changed::No(refusals::ROW);
+        let no = self.refuse_set(
+            slots,
+            counts,
+            row_homes,
+            row_logicals,
+            column_homes,
+            column_logicals,
+            marks,
+            starts,
+            entries,
+            words,
+            r,
+            c,
+            v,
+        );
+        if no != 0 {
+            return Changed::No(no);
         }
-        if self.w <= c {
-            return Changed::No(refusals::COLUMN);
-        }
-        let home = permutation::home_row(row_homes, LogicalRow(r));
-        let y = home.0 as usize;
+        let y = places::row_place(permutation::home_row(row_homes, LogicalRow(r)));
         let edge = self.w - self.n;
         if edge <= c {
             tail::put(words, self.n, y, c - edge, v != 0);
             return Changed::Done(self);
         }
-        if self.on {
-            return Changed::No(refusals::PHASE);
-        }
-        let k = self.slots as usize;
-        let column = permutation::home_column(column_homes, places::column(c));
-        if !has_room(slots, counts, y, k, column.0, v != 0) {
-            return Changed::No(refusals::SLOTS);
-        }
-        change_row(slots, counts, y, k, column.0, v != 0);
+        let z = permutation::home_column(column_homes, places::column(c));
+        change_row(slots, counts, y, self.slots as usize, z.0, v != 0);
         Changed::Done(self)
     }
 }

@@ -6,14 +6,50 @@ use crate::refusals;
 use permutation::LogicalRow;
 ghost use mathlib.Core.Path.{_≡_};
 ghost use mathlib.Core.List.{[]};
+ghost use Prim.Native.Nat.{_≤_};
 ghost use Rattle.table.specs.declared.Op.the-variants.{SwapR, SwapC};
 ghost use Rattle.model.specs.WellFormed.{WellFormed};
 ghost use Rattle.model.specs.Step.{inner, resultOf};
-ghost use Rattle.sparse_matrix.specs.Lent.{storeOf, fullOf};
+ghost use Rattle.sparse_matrix.specs.Lent.{storeOf, fullOf, bareOf};
 ghost use Rattle.sparse_matrix.specs.Told.{changedTold};
+ghost use Rattle.sparse_matrix.specs.Refused.{refusalOf};
 ghost use Rattle.sparse_matrix.specs.Changes.{two};
 
 impl Head {
+    // The refusal of SWAPR, and 0 where there is none: 4 where a row is past the height. It looks at the head alone.
+    pub fn refuse_swap_rows(self, i: u32, j: u32) -> u32
+        ensures { λ k. ⌜ k ≡ refusalOf (inner (SwapR (two i j)) (fullOf (bareOf self) [])) ⌝ }
+    {
+        if self.h <= i {
+            return refusals::ROW;
+        }
+        if self.h <= j {
+            return refusals::ROW;
+        }
+        0
+    }
+
+    // The refusal of SWAPC, and 0 where there is none: 5 where a column is past the width, then 6 where one is in the tail. It looks at the head alone.
+    pub fn refuse_swap_columns(self, i: u32, j: u32) -> u32
+        requires { ⌜ self .n ≤ self .w ⌝ }
+        ensures { λ k. ⌜ k ≡ refusalOf (inner (SwapC (two i j)) (fullOf (bareOf self) [])) ⌝ }
+    {
+        if self.w <= i {
+            return refusals::COLUMN;
+        }
+        if self.w <= j {
+            return refusals::COLUMN;
+        }
+        let edge = self.w - self.n;
+        if edge <= i {
+            return refusals::SIDE;
+        }
+        if edge <= j {
+            return refusals::SIDE;
+        }
+        0
+    }
+
     // SWAPR: rows `i` and `j` are exchanged ("i = j allowed"), or refused with 4.
     pub fn swap_rows_in(
         self,
@@ -33,11 +69,9 @@ impl Head {
         requires { ⌜ WellFormed (storeOf self (now slots) (now counts) (now «row_homes») (now «row_logicals») (now «column_homes») (now «column_logicals») (now marks) (now starts) (now entries) (now words)) ⌝ }
         ensures { λ x. ⌜ changedTold self x (λ d. storeOf d (now (slots .entry)) (now (counts .entry)) (now («row_homes» .exit)) (now («row_logicals» .exit)) (now («column_homes» .entry)) (now («column_logicals» .entry)) (now (marks .entry)) (now (starts .entry)) (now (entries .entry)) (now (words .entry))) ≡ resultOf (fullOf (storeOf self (now (slots .entry)) (now (counts .entry)) (now («row_homes» .entry)) (now («row_logicals» .entry)) (now («column_homes» .entry)) (now («column_logicals» .entry)) (now (marks .entry)) (now (starts .entry)) (now (entries .entry)) (now (words .entry))) []) (inner (SwapR (two i j)) (fullOf (storeOf self (now (slots .entry)) (now (counts .entry)) (now («row_homes» .entry)) (now («row_logicals» .entry)) (now («column_homes» .entry)) (now («column_logicals» .entry)) (now (marks .entry)) (now (starts .entry)) (now (entries .entry)) (now (words .entry))) [])) ⌝ }
     {
-        if self.h <= i {
-            return Changed::No(refusals::ROW);
-        }
-        if self.h <= j {
-            return Changed::No(refusals::ROW);
+        let no = self.refuse_swap_rows(i, j);
+        if no != 0 {
+            return Changed::No(no);
         }
         permutation::swap_rows(row_homes, row_logicals, LogicalRow(i), LogicalRow(j));
         Changed::Done(self)
@@ -62,18 +96,9 @@ impl Head {
         requires { ⌜ WellFormed (storeOf self (now slots) (now counts) (now «row_homes») (now «row_logicals») (now «column_homes») (now «column_logicals») (now marks) (now starts) (now entries) (now words)) ⌝ }
         ensures { λ x. ⌜ changedTold self x (λ d. storeOf d (now (slots .entry)) (now (counts .entry)) (now («row_homes» .entry)) (now («row_logicals» .entry)) (now («column_homes» .exit)) (now («column_logicals» .exit)) (now (marks .entry)) (now (starts .entry)) (now (entries .entry)) (now (words .entry))) ≡ resultOf (fullOf (storeOf self (now (slots .entry)) (now (counts .entry)) (now («row_homes» .entry)) (now («row_logicals» .entry)) (now («column_homes» .entry)) (now («column_logicals» .entry)) (now (marks .entry)) (now (starts .entry)) (now (entries .entry)) (now (words .entry))) []) (inner (SwapC (two i j)) (fullOf (storeOf self (now (slots .entry)) (now (counts .entry)) (now («row_homes» .entry)) (now («row_logicals» .entry)) (now («column_homes» .entry)) (now («column_logicals» .entry)) (now (marks .entry)) (now (starts .entry)) (now (entries .entry)) (now (words .entry))) [])) ⌝ }
     {
-        if self.w <= i {
-            return Changed::No(refusals::COLUMN);
-        }
-        if self.w <= j {
-            return Changed::No(refusals::COLUMN);
-        }
-        let edge = self.w - self.n;
-        if edge <= i {
-            return Changed::No(refusals::SIDE);
-        }
-        if edge <= j {
-            return Changed::No(refusals::SIDE);
+        let no = self.refuse_swap_columns(i, j);
+        if no != 0 {
+            return Changed::No(no);
         }
         let p = places::column(i);
         let q = places::column(j);

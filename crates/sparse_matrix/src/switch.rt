@@ -9,8 +9,33 @@ ghost use Rattle.model.specs.WellFormed.{WellFormed};
 ghost use Rattle.model.specs.Step.{inner, resultOf};
 ghost use Rattle.sparse_matrix.specs.Lent.{storeOf, fullOf};
 ghost use Rattle.sparse_matrix.specs.Told.{changedTold};
+ghost use Rattle.sparse_matrix.specs.Refused.{refusalOf};
 
 impl Head {
+    // The refusal of ON, and 0 where there is none: 14 where there are fewer entries than sparse ones.
+    pub fn refuse_on(
+        self,
+        slots: &[u16],
+        counts: &[u16],
+        row_homes: &[u32],
+        row_logicals: &[u32],
+        column_homes: &[u16],
+        column_logicals: &[u16],
+        marks: &[u8],
+        starts: &[u64],
+        entries: &[u32],
+        words: &[u64],
+    ) -> u32
+        requires { ⌜ WellFormed (storeOf self (now slots) (now counts) (now «row_homes») (now «row_logicals») (now «column_homes») (now «column_logicals») (now marks) (now starts) (now entries) (now words)) ⌝ }
+        ensures { λ k. ⌜ k ≡ refusalOf (inner On (fullOf (storeOf self (now (slots .entry)) (now (counts .entry)) (now («row_homes» .entry)) (now («row_logicals» .entry)) (now («column_homes» .entry)) (now («column_logicals» .entry)) (now (marks .entry)) (now (starts .entry)) (now (entries .entry)) (now (words .entry))) [])) ⌝ }
+    {
+        let ones = arraymap::total(counts, self.h as usize);
+        if entries.len() < ones {
+            return refusals::ENTRIES;
+        }
+        0
+    }
+
     // ON: "index built anew, all marks exact, also when on", or refused with 14 where there are too few entries.
     pub fn enable_column_access_acceleration_in(
         mut self,
@@ -28,11 +53,22 @@ impl Head {
         requires { ⌜ WellFormed (storeOf self (now slots) (now counts) (now «row_homes») (now «row_logicals») (now «column_homes») (now «column_logicals») (now marks) (now starts) (now entries) (now words)) ⌝ }
         ensures { λ x. ⌜ changedTold self x (λ d. storeOf d (now (slots .entry)) (now (counts .entry)) (now («row_homes» .entry)) (now («row_logicals» .entry)) (now («column_homes» .entry)) (now («column_logicals» .entry)) (now (marks .exit)) (now (starts .exit)) (now (entries .exit)) (now (words .entry))) ≡ resultOf (fullOf (storeOf self (now (slots .entry)) (now (counts .entry)) (now («row_homes» .entry)) (now («row_logicals» .entry)) (now («column_homes» .entry)) (now («column_logicals» .entry)) (now (marks .entry)) (now (starts .entry)) (now (entries .entry)) (now (words .entry))) []) (inner On (fullOf (storeOf self (now (slots .entry)) (now (counts .entry)) (now («row_homes» .entry)) (now («row_logicals» .entry)) (now («column_homes» .entry)) (now («column_logicals» .entry)) (now (marks .entry)) (now (starts .entry)) (now (entries .entry)) (now (words .entry))) [])) ⌝ }
     {
-        let h = self.h as usize;
-        let ones = arraymap::total(counts, h);
-        if entries.len() < ones {
-            return Changed::No(refusals::ENTRIES);
+        let no = self.refuse_on(
+            slots,
+            counts,
+            row_homes,
+            row_logicals,
+            column_homes,
+            column_logicals,
+            marks,
+            starts,
+            entries,
+            words,
+        );
+        if no != 0 {
+            return Changed::No(no);
         }
+        let h = self.h as usize;
         let k = self.slots as usize;
         let m = self.made as usize;
         // zero where the index was off

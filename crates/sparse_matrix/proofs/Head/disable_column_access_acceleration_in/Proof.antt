@@ -1,4 +1,5 @@
 -- `sparse_matrix::Head::disable_column_access_acceleration_in` meets its contract. Assumes nothing.
+use native.Mathlib.Omega.{arith}
 use borrow.Author.Needs.{needs}
 use Rattle.sparse_matrix.proofs.Switches.{last-in, marks-in, entries-in, starts-in, off-done}
 use Rattle.sparse_matrix.proofs.Head.disable_column_access_acceleration_in.Statement.{statement}
@@ -21,7 +22,7 @@ slice-read-used : tie.Need-slice-read-used
 slice-read-used c = last-in _ (entered (c .before) .pre)
 
 clear-u8-requires : tie.Need-clear-u8-requires
-clear-u8-requires c κs = marks-in _ (entered (c .before .before) .pre)
+clear-u8-requires c κs = record { in-order = omega arith; in-it = marks-in _ (entered (c .before .before) .pre) .in-it }
 
 clear-u32-requires : tie.Need-clear-u32-requires
 clear-u32-requires c κs = entries-in _ (entered (c .before .before .before .before .before .before) .pre)

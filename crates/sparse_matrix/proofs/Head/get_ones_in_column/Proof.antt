@@ -16,7 +16,7 @@ get-ones-in-column-in-requires : tie.Need-get-ones-in-column-in-requires
 get-ones-in-column-in-requires c κs = sound _ (sym (not-false _ (c .before .if1 .left)) ∙ c .before .before .well-formed .ensures)
 
 same-length : tie.Need-same-length
-same-length c = search needs
+same-length c = c .before .answers .given
 
 returns-2 : tie.Need-returns-2
 returns-2 c = whole-result _ _ _ (sym (not-false _ (c .before .before .before .before .if1 .left)) ∙ c .before .before .before .before .before .well-formed .ensures) (c .before .before .get-ones-in-column-in .ensures)

@@ -24,13 +24,13 @@ freeze-last-requires : tie.Need-freeze-last-requires
 freeze-last-requires c κs = search needs
 
 same-length-4 : tie.Need-same-length-4
-same-length-4 c = search needs
+same-length-4 c = c .before .before .before .before .before .slots .given
 
 same-length-5 : tie.Need-same-length-5
-same-length-5 c = search needs
+same-length-5 c = c .before .before .before .counts .given
 
 same-length-6 : tie.Need-same-length-6
-same-length-6 c = search needs
+same-length-6 c = c .before .words .given
 
 returns-2 : tie.Need-returns-2
 returns-2 c = search needs

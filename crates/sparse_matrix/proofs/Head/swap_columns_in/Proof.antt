@@ -1,63 +1,45 @@
 -- `sparse_matrix::Head::swap_columns_in` meets its contract. Assumes nothing.
-use Rattle.sparse_matrix.proofs.Swaps.{column-can, columns-can, column-i, column-j, tail-i, tail-j, columns-done}
+use native.Mathlib.Omega.{arith}
+use borrow.Author.Needs.{needs}
+use mathlib.Core.Path.{sym, _∙_}
+use Rattle.sparse_matrix.proofs.Refuses.{refuses}
+use Rattle.sparse_matrix.proofs.Swaps.{column-can, maps-can, columns-by-head, columns-in, columns-done}
 use Rattle.sparse_matrix.proofs.Head.swap_columns_in.Statement.{statement}
 use Rattle.sparse_matrix.proofs.Head.swap_columns_in.Tie as tie
 
--- the places that the answers look back to
-abbrev entered : tie.After-struct-known → tie.Start
-entered c = c .before .before .before .before .before .before .before .before .before .before .before
-
-abbrev wide : tie.After-struct-known3 → tie.Start
-wide c = entered (c .before .before .before .before)
-
-abbrev sparse : tie.Else4 → tie.Start
-sparse c = wide (c .before .before)
-
-abbrev named : tie.After-swap-columns-arg2 → tie.After-column2
-named c = c .before .before
-
-abbrev swapped : tie.After-slice-known4 → tie.After-swap-columns
-swapped c = c .before .before .before .before
+refuse-swap-columns-requires : tie.Need-refuse-swap-columns-requires
+refuse-swap-columns-requires c κs = (c .before .before .before .before .before .before .before .before .before .before .pre) .limits .tail
 
 returns : tie.Need-returns
-returns c = column-i _ _ (c .if1 .taken)
-
-returns-2 : tie.Need-returns-2
-returns-2 c = column-j _ _ (c .before .before .if1 .left) (c .if2 .taken)
-
-sub-edge : tie.Need-sub-edge
-sub-edge c = wide c .pre .limits .tail
-
-returns-3 : tie.Need-returns-3
-returns-3 c = tail-i _ _ (c .before .before .before .before .if1 .left) (c .before .before .if2 .left) (c .if3 .taken)
-
-returns-4 : tie.Need-returns-4
-returns-4 c = tail-j _ _ (c .before .before .before .before .before .if1 .left) (c .before .before .before .if2 .left) (c .before .if3 .left) (c .if4 .taken)
+returns c = refuses _ _ _ (columns-by-head _ _ _ (c .before .refuse-swap-columns .ensures)) (c .if1 .taken)
 
 column-requires : tie.Need-column-requires
-column-requires c κs = column-can _ (sparse c .pre) _ (c .before .if3 .left)
+column-requires c κs = column-can _ (c .before .before .before .before .before .before .before .before .before .before .before .before .pre) _ (columns-in _ (c .before .before .before .before .before .before .before .before .before .before .before .before .pre) _ (columns-by-head _ _ _ (sym (c .if1 .left) ∙ (c .before .refuse-swap-columns .ensures))) .0)
 
 column-requires-2 : tie.Need-column-requires-2
-column-requires-2 c κs = column-can _ (sparse (c .before) .pre) _ (c .before .if4 .left)
+column-requires-2 c κs = column-can _ (c .before .before .before .before .before .before .before .before .before .before .before .before .before .pre) _ (columns-in _ (c .before .before .before .before .before .before .before .before .before .before .before .before .before .pre) _ (columns-by-head _ _ _ (sym (c .before .if1 .left) ∙ (c .before .before .refuse-swap-columns .ensures))) .1)
 
 swap-columns-requires : tie.Need-swap-columns-requires
-swap-columns-requires c κs = columns-can _ (sparse (named c .before .before) .pre) _ _ _ _ (named c .before .column .ensures) (named c .column2 .ensures) (named c .before .before .before .if3 .left) (named c .before .before .if4 .left)
+swap-columns-requires c κs = maps-can _ _ ((c .before .before .before .before .before .before .before .before .before .before .before .before .before .before .before .before .pre) .maps .columns) _ _ (omega (arith, (c .before .before .before .column .ensures), (c .before .before .column2 .ensures), columns-in _ (c .before .before .before .before .before .before .before .before .before .before .before .before .before .before .before .before .pre) _ (columns-by-head _ _ _ (sym (c .before .before .before .before .if1 .left) ∙ (c .before .before .before .before .before .refuse-swap-columns .ensures))) .0, columns-in _ (c .before .before .before .before .before .before .before .before .before .before .before .before .before .before .before .before .pre) _ (columns-by-head _ _ _ (sym (c .before .before .before .before .if1 .left) ∙ (c .before .before .before .before .before .refuse-swap-columns .ensures))) .1, (c .before .before .before .before .before .before .before .before .before .before .before .before .before .before .before .before .pre) .maps .wide)) (omega (arith, (c .before .before .before .column .ensures), (c .before .before .column2 .ensures), columns-in _ (c .before .before .before .before .before .before .before .before .before .before .before .before .before .before .before .before .pre) _ (columns-by-head _ _ _ (sym (c .before .before .before .before .if1 .left) ∙ (c .before .before .before .before .before .refuse-swap-columns .ensures))) .0, columns-in _ (c .before .before .before .before .before .before .before .before .before .before .before .before .before .before .before .before .pre) _ (columns-by-head _ _ _ (sym (c .before .before .before .before .if1 .left) ∙ (c .before .before .before .before .before .refuse-swap-columns .ensures))) .1, (c .before .before .before .before .before .before .before .before .before .before .before .before .before .before .before .before .pre) .maps .wide))
 
-returns-5 : tie.Need-returns-5
-returns-5 c = columns-done _ _ _ _ _ _ (named (swapped c .before) .before .column .ensures) (named (swapped c .before) .column2 .ensures) (swapped c .swap-columns .ensures .0) (swapped c .swap-columns .ensures .1) (named (swapped c .before) .before .before .before .if3 .left) (named (swapped c .before) .before .before .if4 .left)
+same-length : tie.Need-same-length
+same-length c = (c .before .before .before .column-homes .given)
+
+same-length-2 : tie.Need-same-length-2
+same-length-2 c = (c .before .column-logicals .given)
+
+returns-2 : tie.Need-returns-2
+returns-2 c = columns-done _ _ _ _ _ _ (c .before .before .before .before .before .before .before .before .column .ensures) (c .before .before .before .before .before .before .before .column2 .ensures) ((c .before .before .before .before .swap-columns .ensures) .0) ((c .before .before .before .before .swap-columns .ensures) .1) (columns-in _ (c .before .before .before .before .before .before .before .before .before .before .before .before .before .before .before .before .before .before .before .before .before .pre) _ (columns-by-head _ _ _ (sym (c .before .before .before .before .before .before .before .before .before .if1 .left) ∙ (c .before .before .before .before .before .before .before .before .before .before .refuse-swap-columns .ensures))) .0) (columns-in _ (c .before .before .before .before .before .before .before .before .before .before .before .before .before .before .before .before .before .before .before .before .before .pre) _ (columns-by-head _ _ _ (sym (c .before .before .before .before .before .before .before .before .before .if1 .left) ∙ (c .before .before .before .before .before .before .before .before .before .before .refuse-swap-columns .ensures))) .1)
 
 pub swap-columns-in-spec : {M : Type 1} → statement M
 swap-columns-in-spec =
     tie.close
     (tie.spec
+    refuse-swap-columns-requires
     returns
-    returns-2
-    sub-edge
-    returns-3
-    returns-4
     column-requires
     column-requires-2
     swap-columns-requires
-    (λ c. swapped c .swap-columns .kept .0)
-    (λ c. swapped c .swap-columns .kept .1 .0)
-    returns-5)
+    same-length
+    same-length-2
+    returns-2)

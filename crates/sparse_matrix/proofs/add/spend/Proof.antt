@@ -15,23 +15,23 @@ returns-2 c = no-marks _ _ _ _ _ _ (c .before .before .before .before .pre) (not
 mul-at : tie.Need-mul-at
 mul-at c = omega (arith, c .before .before .before .before .pre .place (not-false _ (c .before .if1 .left)) (not-false _ (c .if2 .left)))
 
-mul-place : tie.Need-mul-place
-mul-place c = omega (arith, c .before .before .before .before .pre .place (not-false _ (c .before .if1 .left)) (not-false _ (c .if2 .left)))
+mul-wide : tie.Need-mul-wide
+mul-wide c = omega (arith, c .before .before .before .before .pre .place (not-false _ (c .before .if1 .left)) (not-false _ (c .if2 .left)))
 
-shared-slice-read-place : tie.Need-shared-slice-read-place
-shared-slice-read-place c = c .before .before .before .before .before .pre .place (not-false _ (c .before .before .if1 .left)) (not-false _ (c .before .if2 .left))
+shared-slice-read-wide : tie.Need-shared-slice-read-wide
+shared-slice-read-wide c = c .before .before .before .before .before .pre .place (not-false _ (c .before .before .if1 .left)) (not-false _ (c .before .if2 .left))
 
-place-requires : tie.Need-place-requires
-place-requires c κs = search needs
+wide-requires : tie.Need-wide-requires
+wide-requires c κs = search needs
 
 slice-write-marks : tie.Need-slice-write-marks
-slice-write-marks c = rw (c .place .ensures) (c .before .before .before .before .before .before .pre .mark (not-false _ (c .before .before .before .if1 .left)) (not-false _ (c .before .before .if2 .left)))
+slice-write-marks c = rw (c .wide .ensures) (c .before .before .before .before .before .before .pre .mark (not-false _ (c .before .before .before .if1 .left)) (not-false _ (c .before .before .if2 .left)))
 
 same-length : tie.Need-same-length
 same-length c = search needs
 
 returns-3 : tie.Need-returns-3
-returns-3 c = marked _ _ _ _ _ _ (c .before .before .before .before .before .before .pre) (not-false _ (c .before .before .before .if1 .left)) (not-false _ (c .before .before .if2 .left)) _ (c .place .ensures)
+returns-3 c = marked _ _ _ _ _ _ (c .before .before .before .before .before .before .pre) (not-false _ (c .before .before .before .if1 .left)) (not-false _ (c .before .before .if2 .left)) _ (c .wide .ensures)
 
 pub spend-spec : {M : Type 1} → statement M
 spend-spec =
@@ -40,9 +40,9 @@ spend-spec =
     returns
     returns-2
     mul-at
-    mul-place
-    shared-slice-read-place
-    place-requires
+    mul-wide
+    shared-slice-read-wide
+    wide-requires
     slice-write-marks
     same-length
     returns-3)

@@ -12,20 +12,20 @@ row-place-requires c κs = search needs
 mul-at : tie.Need-mul-at
 mul-at c = omega (arith, row-room _ _ _ _ _ _ (c .before .before .before .pre) (c .row-place .ensures) refl)
 
-mul-length-of : tie.Need-mul-length-of
-mul-length-of c = search needs
+mul-wide : tie.Need-mul-wide
+mul-wide c = search needs
 
-shared-slice-read-length-of : tie.Need-shared-slice-read-length-of
-shared-slice-read-length-of c = search needs
+shared-slice-read-wide : tie.Need-shared-slice-read-wide
+shared-slice-read-wide c = search needs
 
-length-of-requires : tie.Need-length-of-requires
-length-of-requires c κs = search needs
+wide-requires : tie.Need-wide-requires
+wide-requires c κs = search needs
 
 add-result : tie.Need-add-result
-add-result c = omega (arith, row-room _ _ _ _ _ _ (c .before .before .before .before .before .pre) (c .before .before .row-place .ensures) (c .length-of .ensures))
+add-result c = omega (arith, row-room _ _ _ _ _ _ (c .before .before .before .before .before .pre) (c .before .before .row-place .ensures) (c .wide .ensures))
 
 mul-result : tie.Need-mul-result
-mul-result c = omega (arith, row-room _ _ _ _ _ _ (c .before .before .before .before .before .pre) (c .before .before .row-place .ensures) (c .length-of .ensures))
+mul-result c = omega (arith, row-room _ _ _ _ _ _ (c .before .before .before .before .before .pre) (c .before .before .row-place .ensures) (c .wide .ensures))
 
 sub-result : tie.Need-sub-result
 sub-result c = search needs
@@ -34,10 +34,10 @@ part-result-start : tie.Need-part-result-start
 part-result-start c = search needs
 
 part-result-end : tie.Need-part-result-end
-part-result-end c = omega (arith, row-room _ _ _ _ _ _ (c .before .before .before .before .before .pre) (c .before .before .row-place .ensures) (c .length-of .ensures))
+part-result-end c = omega (arith, row-room _ _ _ _ _ _ (c .before .before .before .before .before .pre) (c .before .before .row-place .ensures) (c .wide .ensures))
 
 returns : tie.Need-returns
-returns c = row-is _ _ _ _ _ _ (c .before .before .before .row-place .ensures) (c .before .length-of .ensures)
+returns c = row-is _ _ _ _ _ _ (c .before .before .before .row-place .ensures) (c .before .wide .ensures)
 
 pub row-spec : {M : Type 1} → statement M
 row-spec =
@@ -45,9 +45,9 @@ row-spec =
     (tie.spec
     row-place-requires
     mul-at
-    mul-length-of
-    shared-slice-read-length-of
-    length-of-requires
+    mul-wide
+    shared-slice-read-wide
+    wide-requires
     add-result
     mul-result
     sub-result

@@ -1,0 +1,69 @@
+-- `sparse_matrix::Head::resize` meets its contract. Assumes nothing.
+use native.Mathlib.Omega.{arith}
+use borrow.Author.Needs.{needs}
+use mathlib.Core.Path.{refl, sym, _∙_}
+use borrow.Author.Tests.{not-true, not-false}
+use Rattle.sparse_matrix.proofs.Calls.{sound, damaged-result, whole-result}
+use Rattle.sparse_matrix.proofs.Head.resize.Statement.{statement}
+use Rattle.sparse_matrix.proofs.Head.resize.Tie as tie
+
+well-formed-requires : tie.Need-well-formed-requires
+well-formed-requires c κs = search needs
+
+same-length : tie.Need-same-length
+same-length c = refl
+
+same-length-2 : tie.Need-same-length-2
+same-length-2 c = refl
+
+same-length-3 : tie.Need-same-length-3
+same-length-3 c = refl
+
+same-length-4 : tie.Need-same-length-4
+same-length-4 c = refl
+
+same-length-5 : tie.Need-same-length-5
+same-length-5 c = refl
+
+returns : tie.Need-returns
+returns c = damaged-result _ _ refl (sym (not-true _ (c .if1 .taken)) ∙ (c .before .well-formed .ensures))
+
+resize-in-requires : tie.Need-resize-in-requires
+resize-in-requires c κs = sound _ (sym (not-false _ (c .before .before .before .before .before .if1 .left)) ∙ (c .before .before .before .before .before .before .well-formed .ensures))
+
+same-length-6 : tie.Need-same-length-6
+same-length-6 c = c .before .before .before .before .before .before .before .before .before .slots .given
+
+same-length-7 : tie.Need-same-length-7
+same-length-7 c = c .before .before .before .before .before .before .before .counts .given
+
+same-length-8 : tie.Need-same-length-8
+same-length-8 c = c .before .before .before .before .before .row-homes .given
+
+same-length-9 : tie.Need-same-length-9
+same-length-9 c = c .before .before .before .row-logicals .given
+
+same-length-10 : tie.Need-same-length-10
+same-length-10 c = c .before .words .given
+
+returns-2 : tie.Need-returns-2
+returns-2 c = whole-result _ _ _ (sym (not-false _ (c .before .before .before .before .before .before .before .before .before .before .before .before .before .before .before .before .if1 .left)) ∙ (c .before .before .before .before .before .before .before .before .before .before .before .before .before .before .before .before .before .well-formed .ensures)) (c .before .before .before .before .before .before .before .before .before .before .resize-in .ensures)
+
+pub resize-spec : {M : Type 1} → statement M
+resize-spec =
+    tie.close
+    (tie.spec
+    well-formed-requires
+    same-length
+    same-length-2
+    same-length-3
+    same-length-4
+    same-length-5
+    returns
+    resize-in-requires
+    same-length-6
+    same-length-7
+    same-length-8
+    same-length-9
+    same-length-10
+    returns-2)
