@@ -1,0 +1,162 @@
+// The nine operations that change the store.
+use sparse_matrix::Changed;
+use sparse_matrix::Head;
+use table::Op;
+ghost use mathlib.Core.Path.{_≡_};
+ghost use mathlib.Core.Bool.{true, false};
+ghost use mathlib.Core.List.{[]};
+ghost use Rattle.table.specs.Room.{kind, isMake};
+ghost use Rattle.model.specs.WellFormed.{WellFormed};
+ghost use Rattle.model.specs.Step.{inner, resultOf};
+ghost use Rattle.sparse_matrix.specs.Lent.{storeOf, fullOf};
+ghost use Rattle.sparse_matrix.specs.Told.{changedTold};
+ghost use Rattle.operations.specs.Applied.{asks};
+
+// An operation that changes the store, which is well-formed, or which MAKE is to make.
+pub fn change(
+    head: Head,
+    slots: &mut [u16],
+    counts: &mut [u16],
+    row_homes: &mut [u32],
+    row_logicals: &mut [u32],
+    column_homes: &mut [u16],
+    column_logicals: &mut [u16],
+    marks: &mut [u8],
+    starts: &mut [u64],
+    entries: &mut [u32],
+    words: &mut [u64],
+    op: Op,
+) -> Changed
+    requires { ⌜ (isMake (kind op) ≡ false → WellFormed (storeOf head (now slots) (now counts) (now «row_homes») (now «row_logicals») (now «column_homes») (now «column_logicals») (now marks) (now starts) (now entries) (now words))) ⌝ }
+    requires { ⌜ asks op ≡ false ⌝ }
+    ensures { λ x. ⌜ changedTold head x (λ d. storeOf d (now (slots .exit)) (now (counts .exit)) (now («row_homes» .exit)) (now («row_logicals» .exit)) (now («column_homes» .exit)) (now («column_logicals» .exit)) (now (marks .exit)) (now (starts .exit)) (now (entries .exit)) (now (words .exit))) ≡ resultOf (fullOf (storeOf head (now (slots .entry)) (now (counts .entry)) (now («row_homes» .entry)) (now («row_logicals» .entry)) (now («column_homes» .entry)) (now («column_logicals» .entry)) (now (marks .entry)) (now (starts .entry)) (now (entries .entry)) (now (words .entry))) []) (inner op (fullOf (storeOf head (now (slots .entry)) (now (counts .entry)) (now («row_homes» .entry)) (now («row_logicals» .entry)) (now («column_homes» .entry)) (now («column_logicals» .entry)) (now (marks .entry)) (now (starts .entry)) (now (entries .entry)) (now (words .entry))) [])) ⌝ }
+{
+    match op {
+        Op::Make(p) => head.new(
+            slots,
+            counts,
+            row_homes,
+            row_logicals,
+            column_homes,
+            column_logicals,
+            marks,
+            starts,
+            entries,
+            words,
+            p.h,
+            p.w,
+            p.n,
+            p.slots,
+        ),
+        Op::Set(p) => head.set_in(
+            slots,
+            counts,
+            row_homes,
+            row_logicals,
+            column_homes,
+            column_logicals,
+            marks,
+            starts,
+            entries,
+            words,
+            p.r,
+            p.c,
+            p.v,
+        ),
+        Op::SwapR(p) => head.swap_rows_in(
+            slots,
+            counts,
+            row_homes,
+            row_logicals,
+            column_homes,
+            column_logicals,
+            marks,
+            starts,
+            entries,
+            words,
+            p.i,
+            p.j,
+        ),
+        Op::SwapC(p) => head.swap_columns_in(
+            slots,
+            counts,
+            row_homes,
+            row_logicals,
+            column_homes,
+            column_logicals,
+            marks,
+            starts,
+            entries,
+            words,
+            p.i,
+            p.j,
+        ),
+        Op::Add(p) => head.add_assign_rows_in(
+            slots,
+            counts,
+            row_homes,
+            row_logicals,
+            column_homes,
+            column_logicals,
+            marks,
+            starts,
+            entries,
+            words,
+            p.d,
+            p.s,
+            p.start,
+        ),
+        Op::On => head.enable_column_access_acceleration_in(
+            slots,
+            counts,
+            row_homes,
+            row_logicals,
+            column_homes,
+            column_logicals,
+            marks,
+            starts,
+            entries,
+            words,
+        ),
+        Op::Off => head.disable_column_access_acceleration_in(
+            slots,
+            counts,
+            row_homes,
+            row_logicals,
+            column_homes,
+            column_logicals,
+            marks,
+            starts,
+            entries,
+            words,
+        ),
+        Op::Freeze(p) => head.hint_column_dense_and_frozen_in(
+            slots,
+            counts,
+            row_homes,
+            row_logicals,
+            column_homes,
+            column_logicals,
+            marks,
+            starts,
+            entries,
+            words,
+            p.c,
+        ),
+        Op::Resize(p) => head.resize_in(
+            slots,
+            counts,
+            row_homes,
+            row_logicals,
+            column_homes,
+            column_logicals,
+            marks,
+            starts,
+            entries,
+            words,
+            p.h,
+            p.w,
+        ),
+        _ => Changed::Done(head),
+    }
+}

@@ -1,0 +1,211 @@
+// Which number refuses an operation, before anything is written: one decision for all sixteen, in 01's order, by the functions that the operations themselves go by.
+use sparse_matrix::Head;
+use sparse_matrix::Number;
+use table::Op;
+ghost use mathlib.Core.Path.{_≡_};
+ghost use mathlib.Core.Bool.{false};
+ghost use Rattle.table.specs.Room.{kind, isMake};
+ghost use Rattle.model.specs.WellFormed.{WellFormed};
+ghost use Rattle.model.specs.Step.{inner};
+ghost use Rattle.sparse_matrix.specs.Lent.{storeOf, fullOf};
+ghost use Rattle.sparse_matrix.specs.Refused.{refusalOf};
+ghost use Rattle.operations.specs.Applied.{refusedIn};
+
+// The number of a refusal that an answer holds, and 0 where it is none.
+fn no_number(x: Number) -> u32
+    ensures { λ k. ⌜ k ≡ refusedIn x ⌝ }
+{
+    match x {
+        Number::Is(n) => 0,
+        Number::No(k) => k,
+    }
+}
+
+// The number that refuses `op`, and 0 where none does. It changes nothing.
+pub fn refusal(
+    head: Head,
+    slots: &[u16],
+    counts: &[u16],
+    row_homes: &[u32],
+    row_logicals: &[u32],
+    column_homes: &[u16],
+    column_logicals: &[u16],
+    marks: &[u8],
+    starts: &[u64],
+    entries: &[u32],
+    words: &[u64],
+    answers: &[u32],
+    op: Op,
+) -> u32
+    requires { ⌜ (isMake (kind op) ≡ false → WellFormed (storeOf head (now slots) (now counts) (now «row_homes») (now «row_logicals») (now «column_homes») (now «column_logicals») (now marks) (now starts) (now entries) (now words))) ⌝ }
+    ensures { λ k. ⌜ k ≡ refusalOf (inner op (fullOf (storeOf head (now (slots .entry)) (now (counts .entry)) (now («row_homes» .entry)) (now («row_logicals» .entry)) (now («column_homes» .entry)) (now («column_logicals» .entry)) (now (marks .entry)) (now (starts .entry)) (now (entries .entry)) (now (words .entry))) (now (answers .entry)))) ⌝ }
+{
+    match op {
+        Op::Make(p) => head.refuse_make(
+            slots,
+            counts,
+            row_homes,
+            row_logicals,
+            column_homes,
+            column_logicals,
+            marks,
+            starts,
+            entries,
+            words,
+            p.h,
+            p.w,
+            p.n,
+            p.slots,
+        ),
+        Op::Set(p) => head.refuse_set(
+            slots,
+            counts,
+            row_homes,
+            row_logicals,
+            column_homes,
+            column_logicals,
+            marks,
+            starts,
+            entries,
+            words,
+            p.r,
+            p.c,
+            p.v,
+        ),
+        Op::SwapR(p) => head.refuse_swap_rows(p.i, p.j),
+        Op::SwapC(p) => head.refuse_swap_columns(p.i, p.j),
+        Op::Add(p) => head.refuse_add(
+            slots,
+            counts,
+            row_homes,
+            row_logicals,
+            column_homes,
+            column_logicals,
+            marks,
+            starts,
+            entries,
+            words,
+            p.d,
+            p.s,
+            p.start,
+        ),
+        Op::On => head.refuse_on(
+            slots,
+            counts,
+            row_homes,
+            row_logicals,
+            column_homes,
+            column_logicals,
+            marks,
+            starts,
+            entries,
+            words,
+        ),
+        Op::Off => 0,
+        Op::Freeze(p) => head.refuse_freeze(
+            slots,
+            counts,
+            row_homes,
+            row_logicals,
+            column_homes,
+            column_logicals,
+            marks,
+            starts,
+            entries,
+            words,
+            p.c,
+        ),
+        Op::Resize(p) => head.refuse_resize(p.h, p.w),
+        Op::Get(p) => no_number(head.get_in(
+            slots,
+            counts,
+            row_homes,
+            row_logicals,
+            column_homes,
+            column_logicals,
+            marks,
+            starts,
+            entries,
+            words,
+            p.r,
+            p.c,
+        )),
+        Op::Count(p) => no_number(head.count_ones_in(
+            slots,
+            counts,
+            row_homes,
+            row_logicals,
+            column_homes,
+            column_logicals,
+            marks,
+            starts,
+            entries,
+            words,
+            p.r,
+            p.a,
+            p.b,
+        )),
+        Op::Words(p) => no_number(head.get_sub_row_in(
+            slots,
+            counts,
+            row_homes,
+            row_logicals,
+            column_homes,
+            column_logicals,
+            marks,
+            starts,
+            entries,
+            words,
+            p.r,
+            p.a,
+        )),
+        Op::TailOnes(p) => head.refuse_tail_ones(
+            slots,
+            counts,
+            row_homes,
+            row_logicals,
+            column_homes,
+            column_logicals,
+            marks,
+            starts,
+            entries,
+            words,
+            answers,
+            p.r,
+            p.a,
+        ),
+        Op::Iter(p) => head.refuse_iter(
+            slots,
+            counts,
+            row_homes,
+            row_logicals,
+            column_homes,
+            column_logicals,
+            marks,
+            starts,
+            entries,
+            words,
+            answers,
+            p.r,
+            p.a,
+            p.b,
+        ),
+        Op::ColOnes(p) => head.refuse_col_ones(
+            slots,
+            counts,
+            row_homes,
+            row_logicals,
+            column_homes,
+            column_logicals,
+            marks,
+            starts,
+            entries,
+            words,
+            answers,
+            p.c,
+            p.a,
+            p.b,
+        ),
+        Op::Size => 0,
+    }
+}
