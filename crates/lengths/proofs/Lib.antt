@@ -1,0 +1,4 @@
+pub mod Measured
+pub mod Walks
+pub mod Words
+pub mod Shown

@@ -1,0 +1,6 @@
+pub mod Turns
+pub mod Measuring
+pub mod Saying
+pub mod RunIsItsSingleCalls
+pub mod RoomNeverChangesARun
+pub mod RunDetermined

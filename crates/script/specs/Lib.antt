@@ -1,0 +1,3 @@
+pub mod Said
+pub mod Left
+pub mod Calls
