@@ -8,19 +8,21 @@ use Rattle.laws.proofs.Parts.{stretch-length}
 use Rattle.table.specs.Run.{Reply}
 use Rattle.model.specs.Store as model
 use Rattle.model.specs.Step.{Result}
-use Rattle.sparse_matrix.specs.declared.Head.{Head}
-use Rattle.sparse_matrix.specs.declared.Size.{Size}
+use Rattle.store_head.specs.declared.Numbers.{Numbers}
+use Rattle.store_head.specs.declared.Size.{Size}
 use Rattle.sparse_matrix.specs.declared.Changed.{Changed}
 use Rattle.sparse_matrix.specs.declared.Changed.the-variants as changed
-use Rattle.sparse_matrix.specs.declared.Number.{Number}
-use Rattle.sparse_matrix.specs.declared.Number.the-variants as numbered
-use Rattle.sparse_matrix.specs.declared.Listed.{Listed}
-use Rattle.sparse_matrix.specs.declared.Listed.the-variants as listed
-use Rattle.sparse_matrix.specs.declared.Sized.{Sized}
-use Rattle.sparse_matrix.specs.declared.Sized.the-variants as sized
-use Rattle.sparse_matrix.specs.Lent.{headOf, storeOf}
-use Rattle.sparse_matrix.specs.Told.{numberSays, sizeSays, listTold, changedTold, wordsSays, handed}
-use Rattle.sparse_matrix.proofs.Replies.{numberIn, values, value, never}
+use Rattle.store_head.specs.declared.Number.{Number}
+use Rattle.store_head.specs.declared.Number.the-variants as numbered
+use Rattle.store_head.specs.declared.Listed.{Listed}
+use Rattle.store_head.specs.declared.Listed.the-variants as listed
+use Rattle.store_head.specs.declared.Sized.{Sized}
+use Rattle.store_head.specs.declared.Sized.the-variants as sized
+use Rattle.store_head.specs.Told.{numberSays, sizeSays, listTold, changedTold, wordsSays, handed}
+use Rattle.store_head.proofs.Replies.{numberIn, values, value, never}
+use Rattle.store_head.proofs.Slices.{Slices, over, lists, same-head}
+use Rattle.sparse_matrix.specs.Heads.{inside}
+use Rattle.sparse_matrix.proofs.Heads.{kept-head}
 
 -- ---- GET, COUNT
 pub number-determined : (x y : Number) (r : Reply) → numberSays x ≡ r → numberSays y ≡ r → x ≡ y
@@ -74,45 +76,10 @@ list-determined s (listed.No k) (listed.No j) a b r p q =
 
 -- ---- the calls that change the store
 
--- the ten lent slices as a call leaves them
-pub record Slices : Type 0 where
-  pub slots : List ℕ
-  pub counts : List ℕ
-  pub row-homes : List ℕ
-  pub row-logicals : List ℕ
-  pub column-homes : List ℕ
-  pub column-logicals : List ℕ
-  pub marks : List ℕ
-  pub starts : List ℕ
-  pub entries : List ℕ
-  pub words : List ℕ
-
-abbrev pub over : Slices → Head → model.Store
-over l d = storeOf d (l .slots) (l .counts) (l .row-homes) (l .row-logicals) (l .column-homes) (l .column-logicals) (l .marks) (l .starts) (l .entries) (l .words)
-
--- a store's lists read back
-unfoldable pub lists : model.Store → Slices
-lists s =
-    record {
-      slots = s .slots .entries;
-      counts = s .slots .counts;
-      row-homes = s .rows .homes;
-      row-logicals = s .rows .logicals;
-      column-homes = s .columns .homes;
-      column-logicals = s .columns .logicals;
-      marks = s .index .marks;
-      starts = s .index .starts;
-      entries = s .index .entries;
-      words = s .words;
-    }
-
-pub same-head : (d e : Head) → headOf d ≡ headOf e → d ≡ e
-same-head d e p i = record { h = p i .h; w = p i .w; n = p i .n; slots = p i .slots; made = p i .made; on = p i .on }
-
-pub change-determined : (d : Head) (x y : Changed) (l m : Slices) (r : Result) → changedTold d x (over l) ≡ r → changedTold d y (over m) ≡ r → (x ≡ y) × (l ≡ m)
+pub change-determined : (d : Numbers) (x y : Changed) (l m : Slices) (r : Result) → changedTold d (inside x) (over l) ≡ r → changedTold d (inside y) (over m) ≡ r → (x ≡ y) × (l ≡ m)
 unfolding numberIn lists
 change-determined d (changed.Done e) (changed.Done f) l m r p q =
-    (ap changed.Done (same-head e f (ap (λ (t : Result). t .after .store .head) (p ∙ sym q))), ap (λ (t : Result). lists (t .after .store)) (p ∙ sym q))
+    (ap changed.Done (kept-head e f (same-head (e .0) (f .0) (ap (λ (t : Result). t .after .store .head) (p ∙ sym q)))), ap (λ (t : Result). lists (t .after .store)) (p ∙ sym q))
 change-determined d (changed.Done e) (changed.No k) l m r p q = never _ _ (ap (λ (t : Result). t .reply) (p ∙ sym q))
 change-determined d (changed.No k) (changed.Done f) l m r p q = never _ _ (ap (λ (t : Result). t .reply) (q ∙ sym p))
 change-determined d (changed.No k) (changed.No j) l m r p q =

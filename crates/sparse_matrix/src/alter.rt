@@ -1,13 +1,20 @@
 // The public calls that change the store: each checks the whole store first, and refuses a damaged one with 1; then its inner twin does the work or refuses.
 use crate::Changed;
 use crate::Head;
-use crate::refusals;
+use changes::add;
+use changes::set;
+use changes::swap;
+use changes::switch;
+use reshape::freeze;
+use reshape::resize;
+use store_head::refusals;
 ghost use mathlib.Core.Path.{_≡_};
 ghost use mathlib.Core.List.{[]};
 ghost use Rattle.table.specs.declared.Op.the-variants as op;
 ghost use Rattle.model.specs.Step.{step, resultOf};
-ghost use Rattle.sparse_matrix.specs.Lent.{storeOf, fullOf};
-ghost use Rattle.sparse_matrix.specs.Told.{changedTold};
+ghost use Rattle.store_head.specs.Lent.{storeOf, fullOf};
+ghost use Rattle.store_head.specs.Told.{changedTold};
+ghost use Rattle.sparse_matrix.specs.Heads.{inside};
 
 impl Head {
     // SWAPR: rows i and j are exchanged.
@@ -26,9 +33,10 @@ impl Head {
         i: u32,
         j: u32,
     ) -> Changed
-        ensures { λ x. ⌜ changedTold self x (λ d. storeOf d (now (slots .entry)) (now (counts .entry)) (now («row_homes» .exit)) (now («row_logicals» .exit)) (now («column_homes» .entry)) (now («column_logicals» .entry)) (now (marks .entry)) (now (starts .entry)) (now (entries .entry)) (now (words .entry))) ≡ resultOf (fullOf (storeOf self (now (slots .entry)) (now (counts .entry)) (now («row_homes» .entry)) (now («row_logicals» .entry)) (now («column_homes» .entry)) (now («column_logicals» .entry)) (now (marks .entry)) (now (starts .entry)) (now (entries .entry)) (now (words .entry))) []) (step (op.SwapR (record { i = i; j = j })) (fullOf (storeOf self (now (slots .entry)) (now (counts .entry)) (now («row_homes» .entry)) (now («row_logicals» .entry)) (now («column_homes» .entry)) (now («column_logicals» .entry)) (now (marks .entry)) (now (starts .entry)) (now (entries .entry)) (now (words .entry))) [])) ⌝ }
+        ensures { λ x. ⌜ changedTold (self .0) (inside x) (λ d. storeOf d (now (slots .entry)) (now (counts .entry)) (now («row_homes» .exit)) (now («row_logicals» .exit)) (now («column_homes» .entry)) (now («column_logicals» .entry)) (now (marks .entry)) (now (starts .entry)) (now (entries .entry)) (now (words .entry))) ≡ resultOf (fullOf (storeOf (self .0) (now (slots .entry)) (now (counts .entry)) (now («row_homes» .entry)) (now («row_logicals» .entry)) (now («column_homes» .entry)) (now («column_logicals» .entry)) (now (marks .entry)) (now (starts .entry)) (now (entries .entry)) (now (words .entry))) []) (step (op.SwapR (record { i = i; j = j })) (fullOf (storeOf (self .0) (now (slots .entry)) (now (counts .entry)) (now («row_homes» .entry)) (now («row_logicals» .entry)) (now («column_homes» .entry)) (now («column_logicals» .entry)) (now (marks .entry)) (now (starts .entry)) (now (entries .entry)) (now (words .entry))) [])) ⌝ }
     {
-        if !self.well_formed(
+        if !store_check::well_formed(
+            self.0,
             slots,
             counts,
             row_homes,
@@ -42,7 +50,8 @@ impl Head {
         ) {
             return Changed::No(refusals::DAMAGED);
         }
-        self.swap_rows_in(
+        self.after(swap::swap_rows_in(
+            self.0,
             slots,
             counts,
             row_homes,
@@ -55,7 +64,7 @@ impl Head {
             words,
             i,
             j,
-        )
+        ))
     }
 
     // SWAPC: columns i and j are exchanged.
@@ -74,9 +83,10 @@ impl Head {
         i: u32,
         j: u32,
     ) -> Changed
-        ensures { λ x. ⌜ changedTold self x (λ d. storeOf d (now (slots .entry)) (now (counts .entry)) (now («row_homes» .entry)) (now («row_logicals» .entry)) (now («column_homes» .exit)) (now («column_logicals» .exit)) (now (marks .entry)) (now (starts .entry)) (now (entries .entry)) (now (words .entry))) ≡ resultOf (fullOf (storeOf self (now (slots .entry)) (now (counts .entry)) (now («row_homes» .entry)) (now («row_logicals» .entry)) (now («column_homes» .entry)) (now («column_logicals» .entry)) (now (marks .entry)) (now (starts .entry)) (now (entries .entry)) (now (words .entry))) []) (step (op.SwapC (record { i = i; j = j })) (fullOf (storeOf self (now (slots .entry)) (now (counts .entry)) (now («row_homes» .entry)) (now («row_logicals» .entry)) (now («column_homes» .entry)) (now («column_logicals» .entry)) (now (marks .entry)) (now (starts .entry)) (now (entries .entry)) (now (words .entry))) [])) ⌝ }
+        ensures { λ x. ⌜ changedTold (self .0) (inside x) (λ d. storeOf d (now (slots .entry)) (now (counts .entry)) (now («row_homes» .entry)) (now («row_logicals» .entry)) (now («column_homes» .exit)) (now («column_logicals» .exit)) (now (marks .entry)) (now (starts .entry)) (now (entries .entry)) (now (words .entry))) ≡ resultOf (fullOf (storeOf (self .0) (now (slots .entry)) (now (counts .entry)) (now («row_homes» .entry)) (now («row_logicals» .entry)) (now («column_homes» .entry)) (now («column_logicals» .entry)) (now (marks .entry)) (now (starts .entry)) (now (entries .entry)) (now (words .entry))) []) (step (op.SwapC (record { i = i; j = j })) (fullOf (storeOf (self .0) (now (slots .entry)) (now (counts .entry)) (now («row_homes» .entry)) (now («row_logicals» .entry)) (now («column_homes» .entry)) (now («column_logicals» .entry)) (now (marks .entry)) (now (starts .entry)) (now (entries .entry)) (now (words .entry))) [])) ⌝ }
     {
-        if !self.well_formed(
+        if !store_check::well_formed(
+            self.0,
             slots,
             counts,
             row_homes,
@@ -90,7 +100,8 @@ impl Head {
         ) {
             return Changed::No(refusals::DAMAGED);
         }
-        self.swap_columns_in(
+        self.after(swap::swap_columns_in(
+            self.0,
             slots,
             counts,
             row_homes,
@@ -103,7 +114,7 @@ impl Head {
             words,
             i,
             j,
-        )
+        ))
     }
 
     // ON: the index is built anew.
@@ -120,9 +131,10 @@ impl Head {
         entries: &mut [u32],
         words: &[u64],
     ) -> Changed
-        ensures { λ x. ⌜ changedTold self x (λ d. storeOf d (now (slots .entry)) (now (counts .entry)) (now («row_homes» .entry)) (now («row_logicals» .entry)) (now («column_homes» .entry)) (now («column_logicals» .entry)) (now (marks .exit)) (now (starts .exit)) (now (entries .exit)) (now (words .entry))) ≡ resultOf (fullOf (storeOf self (now (slots .entry)) (now (counts .entry)) (now («row_homes» .entry)) (now («row_logicals» .entry)) (now («column_homes» .entry)) (now («column_logicals» .entry)) (now (marks .entry)) (now (starts .entry)) (now (entries .entry)) (now (words .entry))) []) (step op.On (fullOf (storeOf self (now (slots .entry)) (now (counts .entry)) (now («row_homes» .entry)) (now («row_logicals» .entry)) (now («column_homes» .entry)) (now («column_logicals» .entry)) (now (marks .entry)) (now (starts .entry)) (now (entries .entry)) (now (words .entry))) [])) ⌝ }
+        ensures { λ x. ⌜ changedTold (self .0) (inside x) (λ d. storeOf d (now (slots .entry)) (now (counts .entry)) (now («row_homes» .entry)) (now («row_logicals» .entry)) (now («column_homes» .entry)) (now («column_logicals» .entry)) (now (marks .exit)) (now (starts .exit)) (now (entries .exit)) (now (words .entry))) ≡ resultOf (fullOf (storeOf (self .0) (now (slots .entry)) (now (counts .entry)) (now («row_homes» .entry)) (now («row_logicals» .entry)) (now («column_homes» .entry)) (now («column_logicals» .entry)) (now (marks .entry)) (now (starts .entry)) (now (entries .entry)) (now (words .entry))) []) (step op.On (fullOf (storeOf (self .0) (now (slots .entry)) (now (counts .entry)) (now («row_homes» .entry)) (now («row_logicals» .entry)) (now («column_homes» .entry)) (now («column_logicals» .entry)) (now (marks .entry)) (now (starts .entry)) (now (entries .entry)) (now (words .entry))) [])) ⌝ }
     {
-        if !self.well_formed(
+        if !store_check::well_formed(
+            self.0,
             slots,
             counts,
             row_homes,
@@ -136,7 +148,8 @@ impl Head {
         ) {
             return Changed::No(refusals::DAMAGED);
         }
-        self.enable_column_access_acceleration_in(
+        self.after(switch::enable_column_access_acceleration_in(
+            self.0,
             slots,
             counts,
             row_homes,
@@ -147,7 +160,7 @@ impl Head {
             starts,
             entries,
             words,
-        )
+        ))
     }
 
     // OFF: the index is dropped.
@@ -164,9 +177,10 @@ impl Head {
         entries: &mut [u32],
         words: &[u64],
     ) -> Changed
-        ensures { λ x. ⌜ changedTold self x (λ d. storeOf d (now (slots .entry)) (now (counts .entry)) (now («row_homes» .entry)) (now («row_logicals» .entry)) (now («column_homes» .entry)) (now («column_logicals» .entry)) (now (marks .exit)) (now (starts .exit)) (now (entries .exit)) (now (words .entry))) ≡ resultOf (fullOf (storeOf self (now (slots .entry)) (now (counts .entry)) (now («row_homes» .entry)) (now («row_logicals» .entry)) (now («column_homes» .entry)) (now («column_logicals» .entry)) (now (marks .entry)) (now (starts .entry)) (now (entries .entry)) (now (words .entry))) []) (step op.Off (fullOf (storeOf self (now (slots .entry)) (now (counts .entry)) (now («row_homes» .entry)) (now («row_logicals» .entry)) (now («column_homes» .entry)) (now («column_logicals» .entry)) (now (marks .entry)) (now (starts .entry)) (now (entries .entry)) (now (words .entry))) [])) ⌝ }
+        ensures { λ x. ⌜ changedTold (self .0) (inside x) (λ d. storeOf d (now (slots .entry)) (now (counts .entry)) (now («row_homes» .entry)) (now («row_logicals» .entry)) (now («column_homes» .entry)) (now («column_logicals» .entry)) (now (marks .exit)) (now (starts .exit)) (now (entries .exit)) (now (words .entry))) ≡ resultOf (fullOf (storeOf (self .0) (now (slots .entry)) (now (counts .entry)) (now («row_homes» .entry)) (now («row_logicals» .entry)) (now («column_homes» .entry)) (now («column_logicals» .entry)) (now (marks .entry)) (now (starts .entry)) (now (entries .entry)) (now (words .entry))) []) (step op.Off (fullOf (storeOf (self .0) (now (slots .entry)) (now (counts .entry)) (now («row_homes» .entry)) (now («row_logicals» .entry)) (now («column_homes» .entry)) (now («column_logicals» .entry)) (now (marks .entry)) (now (starts .entry)) (now (entries .entry)) (now (words .entry))) [])) ⌝ }
     {
-        if !self.well_formed(
+        if !store_check::well_formed(
+            self.0,
             slots,
             counts,
             row_homes,
@@ -180,7 +194,8 @@ impl Head {
         ) {
             return Changed::No(refusals::DAMAGED);
         }
-        self.disable_column_access_acceleration_in(
+        self.after(switch::disable_column_access_acceleration_in(
+            self.0,
             slots,
             counts,
             row_homes,
@@ -191,7 +206,7 @@ impl Head {
             starts,
             entries,
             words,
-        )
+        ))
     }
 
     // SET: the bit in row r and column c becomes v.
@@ -211,9 +226,10 @@ impl Head {
         c: u32,
         v: u8,
     ) -> Changed
-        ensures { λ x. ⌜ changedTold self x (λ d. storeOf d (now (slots .exit)) (now (counts .exit)) (now («row_homes» .entry)) (now («row_logicals» .entry)) (now («column_homes» .entry)) (now («column_logicals» .entry)) (now (marks .entry)) (now (starts .entry)) (now (entries .entry)) (now (words .exit))) ≡ resultOf (fullOf (storeOf self (now (slots .entry)) (now (counts .entry)) (now («row_homes» .entry)) (now («row_logicals» .entry)) (now («column_homes» .entry)) (now («column_logicals» .entry)) (now (marks .entry)) (now (starts .entry)) (now (entries .entry)) (now (words .entry))) []) (step (op.Set (record { r = r; c = c; v = v })) (fullOf (storeOf self (now (slots .entry)) (now (counts .entry)) (now («row_homes» .entry)) (now («row_logicals» .entry)) (now («column_homes» .entry)) (now («column_logicals» .entry)) (now (marks .entry)) (now (starts .entry)) (now (entries .entry)) (now (words .entry))) [])) ⌝ }
+        ensures { λ x. ⌜ changedTold (self .0) (inside x) (λ d. storeOf d (now (slots .exit)) (now (counts .exit)) (now («row_homes» .entry)) (now («row_logicals» .entry)) (now («column_homes» .entry)) (now («column_logicals» .entry)) (now (marks .entry)) (now (starts .entry)) (now (entries .entry)) (now (words .exit))) ≡ resultOf (fullOf (storeOf (self .0) (now (slots .entry)) (now (counts .entry)) (now («row_homes» .entry)) (now («row_logicals» .entry)) (now («column_homes» .entry)) (now («column_logicals» .entry)) (now (marks .entry)) (now (starts .entry)) (now (entries .entry)) (now (words .entry))) []) (step (op.Set (record { r = r; c = c; v = v })) (fullOf (storeOf (self .0) (now (slots .entry)) (now (counts .entry)) (now («row_homes» .entry)) (now («row_logicals» .entry)) (now («column_homes» .entry)) (now («column_logicals» .entry)) (now (marks .entry)) (now (starts .entry)) (now (entries .entry)) (now (words .entry))) [])) ⌝ }
     {
-        if !self.well_formed(
+        if !store_check::well_formed(
+            self.0,
             slots,
             counts,
             row_homes,
@@ -227,7 +243,8 @@ impl Head {
         ) {
             return Changed::No(refusals::DAMAGED);
         }
-        self.set_in(
+        self.after(set::set_in(
+            self.0,
             slots,
             counts,
             row_homes,
@@ -241,7 +258,7 @@ impl Head {
             r,
             c,
             v,
-        )
+        ))
     }
 
     // ADD: row s is added to row d, from column start on.
@@ -261,9 +278,10 @@ impl Head {
         s: u32,
         start: u32,
     ) -> Changed
-        ensures { λ x. ⌜ changedTold self x (λ d. storeOf d (now (slots .exit)) (now (counts .exit)) (now («row_homes» .entry)) (now («row_logicals» .entry)) (now («column_homes» .entry)) (now («column_logicals» .entry)) (now (marks .exit)) (now (starts .entry)) (now (entries .entry)) (now (words .exit))) ≡ resultOf (fullOf (storeOf self (now (slots .entry)) (now (counts .entry)) (now («row_homes» .entry)) (now («row_logicals» .entry)) (now («column_homes» .entry)) (now («column_logicals» .entry)) (now (marks .entry)) (now (starts .entry)) (now (entries .entry)) (now (words .entry))) []) (step (op.Add (record { d = d; s = s; start = start })) (fullOf (storeOf self (now (slots .entry)) (now (counts .entry)) (now («row_homes» .entry)) (now («row_logicals» .entry)) (now («column_homes» .entry)) (now («column_logicals» .entry)) (now (marks .entry)) (now (starts .entry)) (now (entries .entry)) (now (words .entry))) [])) ⌝ }
+        ensures { λ x. ⌜ changedTold (self .0) (inside x) (λ d. storeOf d (now (slots .exit)) (now (counts .exit)) (now («row_homes» .entry)) (now («row_logicals» .entry)) (now («column_homes» .entry)) (now («column_logicals» .entry)) (now (marks .exit)) (now (starts .entry)) (now (entries .entry)) (now (words .exit))) ≡ resultOf (fullOf (storeOf (self .0) (now (slots .entry)) (now (counts .entry)) (now («row_homes» .entry)) (now («row_logicals» .entry)) (now («column_homes» .entry)) (now («column_logicals» .entry)) (now (marks .entry)) (now (starts .entry)) (now (entries .entry)) (now (words .entry))) []) (step (op.Add (record { d = d; s = s; start = start })) (fullOf (storeOf (self .0) (now (slots .entry)) (now (counts .entry)) (now («row_homes» .entry)) (now («row_logicals» .entry)) (now («column_homes» .entry)) (now («column_logicals» .entry)) (now (marks .entry)) (now (starts .entry)) (now (entries .entry)) (now (words .entry))) [])) ⌝ }
     {
-        if !self.well_formed(
+        if !store_check::well_formed(
+            self.0,
             slots,
             counts,
             row_homes,
@@ -277,7 +295,8 @@ impl Head {
         ) {
             return Changed::No(refusals::DAMAGED);
         }
-        self.add_assign_rows_in(
+        self.after(add::add_assign_rows_in(
+            self.0,
             slots,
             counts,
             row_homes,
@@ -291,7 +310,7 @@ impl Head {
             d,
             s,
             start,
-        )
+        ))
     }
 
     // FREEZE: column c, the last sparse one, joins the tail.
@@ -309,9 +328,10 @@ impl Head {
         words: &mut [u64],
         c: u32,
     ) -> Changed
-        ensures { λ x. ⌜ changedTold self x (λ d. storeOf d (now (slots .exit)) (now (counts .exit)) (now («row_homes» .entry)) (now («row_logicals» .entry)) (now («column_homes» .entry)) (now («column_logicals» .entry)) (now (marks .entry)) (now (starts .entry)) (now (entries .entry)) (now (words .exit))) ≡ resultOf (fullOf (storeOf self (now (slots .entry)) (now (counts .entry)) (now («row_homes» .entry)) (now («row_logicals» .entry)) (now («column_homes» .entry)) (now («column_logicals» .entry)) (now (marks .entry)) (now (starts .entry)) (now (entries .entry)) (now (words .entry))) []) (step (op.Freeze (record { c = c })) (fullOf (storeOf self (now (slots .entry)) (now (counts .entry)) (now («row_homes» .entry)) (now («row_logicals» .entry)) (now («column_homes» .entry)) (now («column_logicals» .entry)) (now (marks .entry)) (now (starts .entry)) (now (entries .entry)) (now (words .entry))) [])) ⌝ }
+        ensures { λ x. ⌜ changedTold (self .0) (inside x) (λ d. storeOf d (now (slots .exit)) (now (counts .exit)) (now («row_homes» .entry)) (now («row_logicals» .entry)) (now («column_homes» .entry)) (now («column_logicals» .entry)) (now (marks .entry)) (now (starts .entry)) (now (entries .entry)) (now (words .exit))) ≡ resultOf (fullOf (storeOf (self .0) (now (slots .entry)) (now (counts .entry)) (now («row_homes» .entry)) (now («row_logicals» .entry)) (now («column_homes» .entry)) (now («column_logicals» .entry)) (now (marks .entry)) (now (starts .entry)) (now (entries .entry)) (now (words .entry))) []) (step (op.Freeze (record { c = c })) (fullOf (storeOf (self .0) (now (slots .entry)) (now (counts .entry)) (now («row_homes» .entry)) (now («row_logicals» .entry)) (now («column_homes» .entry)) (now («column_logicals» .entry)) (now (marks .entry)) (now (starts .entry)) (now (entries .entry)) (now (words .entry))) [])) ⌝ }
     {
-        if !self.well_formed(
+        if !store_check::well_formed(
+            self.0,
             slots,
             counts,
             row_homes,
@@ -325,7 +345,8 @@ impl Head {
         ) {
             return Changed::No(refusals::DAMAGED);
         }
-        self.hint_column_dense_and_frozen_in(
+        self.after(freeze::hint_column_dense_and_frozen_in(
+            self.0,
             slots,
             counts,
             row_homes,
@@ -337,7 +358,7 @@ impl Head {
             entries,
             words,
             c,
-        )
+        ))
     }
 
     // RESIZE: the first h rows and w columns are kept, by logical number.
@@ -356,9 +377,10 @@ impl Head {
         h: u32,
         w: u32,
     ) -> Changed
-        ensures { λ x. ⌜ changedTold self x (λ d. storeOf d (now (slots .exit)) (now (counts .exit)) (now («row_homes» .exit)) (now («row_logicals» .exit)) (now («column_homes» .entry)) (now («column_logicals» .entry)) (now (marks .entry)) (now (starts .entry)) (now (entries .entry)) (now (words .exit))) ≡ resultOf (fullOf (storeOf self (now (slots .entry)) (now (counts .entry)) (now («row_homes» .entry)) (now («row_logicals» .entry)) (now («column_homes» .entry)) (now («column_logicals» .entry)) (now (marks .entry)) (now (starts .entry)) (now (entries .entry)) (now (words .entry))) []) (step (op.Resize (record { h = h; w = w })) (fullOf (storeOf self (now (slots .entry)) (now (counts .entry)) (now («row_homes» .entry)) (now («row_logicals» .entry)) (now («column_homes» .entry)) (now («column_logicals» .entry)) (now (marks .entry)) (now (starts .entry)) (now (entries .entry)) (now (words .entry))) [])) ⌝ }
+        ensures { λ x. ⌜ changedTold (self .0) (inside x) (λ d. storeOf d (now (slots .exit)) (now (counts .exit)) (now («row_homes» .exit)) (now («row_logicals» .exit)) (now («column_homes» .entry)) (now («column_logicals» .entry)) (now (marks .entry)) (now (starts .entry)) (now (entries .entry)) (now (words .exit))) ≡ resultOf (fullOf (storeOf (self .0) (now (slots .entry)) (now (counts .entry)) (now («row_homes» .entry)) (now («row_logicals» .entry)) (now («column_homes» .entry)) (now («column_logicals» .entry)) (now (marks .entry)) (now (starts .entry)) (now (entries .entry)) (now (words .entry))) []) (step (op.Resize (record { h = h; w = w })) (fullOf (storeOf (self .0) (now (slots .entry)) (now (counts .entry)) (now («row_homes» .entry)) (now («row_logicals» .entry)) (now («column_homes» .entry)) (now («column_logicals» .entry)) (now (marks .entry)) (now (starts .entry)) (now (entries .entry)) (now (words .entry))) [])) ⌝ }
     {
-        if !self.well_formed(
+        if !store_check::well_formed(
+            self.0,
             slots,
             counts,
             row_homes,
@@ -372,7 +394,8 @@ impl Head {
         ) {
             return Changed::No(refusals::DAMAGED);
         }
-        self.resize_in(
+        self.after(resize::resize_in(
+            self.0,
             slots,
             counts,
             row_homes,
@@ -385,6 +408,6 @@ impl Head {
             words,
             h,
             w,
-        )
+        ))
     }
 }

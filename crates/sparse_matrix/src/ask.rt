@@ -1,9 +1,13 @@
 // The public calls that ask: each checks the whole store first, and refuses a damaged one with 1; then its inner twin answers or refuses.
 use crate::Head;
-use crate::Listed;
-use crate::Number;
-use crate::Sized;
-use crate::refusals;
+use queries::column_list;
+use queries::query;
+use queries::row_lists;
+use queries::row_tail;
+use store_head::Listed;
+use store_head::Number;
+use store_head::Sized;
+use store_head::refusals;
 ghost use mathlib.Core.Path.{_≡_};
 ghost use mathlib.Core.List.{[]};
 ghost use Prim.Native.Nat.{_*_};
@@ -12,8 +16,8 @@ ghost use Rattle.laws.specs.Words.{wordsFor};
 ghost use Rattle.table.specs.declared.Op.the-variants as op;
 ghost use Rattle.table.specs.Run.{replyOf};
 ghost use Rattle.model.specs.Step.{step, resultOf};
-ghost use Rattle.sparse_matrix.specs.Lent.{storeOf, fullOf};
-ghost use Rattle.sparse_matrix.specs.Told.{numberSays, sizeSays, listTold, wordsSays, handed};
+ghost use Rattle.store_head.specs.Lent.{storeOf, fullOf};
+ghost use Rattle.store_head.specs.Told.{numberSays, sizeSays, listTold, wordsSays, handed};
 
 impl Head {
     // SIZE: height, width and tail.
@@ -30,9 +34,10 @@ impl Head {
         entries: &[u32],
         words: &[u64],
     ) -> Sized
-        ensures { λ x. ⌜ sizeSays x ≡ replyOf (step op.Size (fullOf (storeOf self (now (slots .entry)) (now (counts .entry)) (now («row_homes» .entry)) (now («row_logicals» .entry)) (now («column_homes» .entry)) (now («column_logicals» .entry)) (now (marks .entry)) (now (starts .entry)) (now (entries .entry)) (now (words .entry))) [])) ⌝ }
+        ensures { λ x. ⌜ sizeSays x ≡ replyOf (step op.Size (fullOf (storeOf (self .0) (now (slots .entry)) (now (counts .entry)) (now («row_homes» .entry)) (now («row_logicals» .entry)) (now («column_homes» .entry)) (now («column_logicals» .entry)) (now (marks .entry)) (now (starts .entry)) (now (entries .entry)) (now (words .entry))) [])) ⌝ }
     {
-        if !self.well_formed(
+        if !store_check::well_formed(
+            self.0,
             slots,
             counts,
             row_homes,
@@ -46,7 +51,8 @@ impl Head {
         ) {
             return Sized::No(refusals::DAMAGED);
         }
-        self.size_in(
+        query::size_in(
+            self.0,
             slots,
             counts,
             row_homes,
@@ -76,9 +82,10 @@ impl Head {
         r: u32,
         c: u32,
     ) -> Number
-        ensures { λ x. ⌜ numberSays x ≡ replyOf (step (op.Get (record { r = r; c = c })) (fullOf (storeOf self (now (slots .entry)) (now (counts .entry)) (now («row_homes» .entry)) (now («row_logicals» .entry)) (now («column_homes» .entry)) (now («column_logicals» .entry)) (now (marks .entry)) (now (starts .entry)) (now (entries .entry)) (now (words .entry))) [])) ⌝ }
+        ensures { λ x. ⌜ numberSays x ≡ replyOf (step (op.Get (record { r = r; c = c })) (fullOf (storeOf (self .0) (now (slots .entry)) (now (counts .entry)) (now («row_homes» .entry)) (now («row_logicals» .entry)) (now («column_homes» .entry)) (now («column_logicals» .entry)) (now (marks .entry)) (now (starts .entry)) (now (entries .entry)) (now (words .entry))) [])) ⌝ }
     {
-        if !self.well_formed(
+        if !store_check::well_formed(
+            self.0,
             slots,
             counts,
             row_homes,
@@ -92,7 +99,8 @@ impl Head {
         ) {
             return Number::No(refusals::DAMAGED);
         }
-        self.get_in(
+        query::get_in(
+            self.0,
             slots,
             counts,
             row_homes,
@@ -125,9 +133,10 @@ impl Head {
         a: u32,
         b: u32,
     ) -> Number
-        ensures { λ x. ⌜ numberSays x ≡ replyOf (step (op.Count (record { r = r; a = a; b = b })) (fullOf (storeOf self (now (slots .entry)) (now (counts .entry)) (now («row_homes» .entry)) (now («row_logicals» .entry)) (now («column_homes» .entry)) (now («column_logicals» .entry)) (now (marks .entry)) (now (starts .entry)) (now (entries .entry)) (now (words .entry))) [])) ⌝ }
+        ensures { λ x. ⌜ numberSays x ≡ replyOf (step (op.Count (record { r = r; a = a; b = b })) (fullOf (storeOf (self .0) (now (slots .entry)) (now (counts .entry)) (now («row_homes» .entry)) (now («row_logicals» .entry)) (now («column_homes» .entry)) (now («column_logicals» .entry)) (now (marks .entry)) (now (starts .entry)) (now (entries .entry)) (now (words .entry))) [])) ⌝ }
     {
-        if !self.well_formed(
+        if !store_check::well_formed(
+            self.0,
             slots,
             counts,
             row_homes,
@@ -141,7 +150,8 @@ impl Head {
         ) {
             return Number::No(refusals::DAMAGED);
         }
-        self.count_ones_in(
+        query::count_ones_in(
+            self.0,
             slots,
             counts,
             row_homes,
@@ -176,9 +186,10 @@ impl Head {
         a: u32,
         b: u32,
     ) -> Listed
-        ensures { λ x. ⌜ listTold (storeOf self (now (slots .entry)) (now (counts .entry)) (now («row_homes» .entry)) (now («row_logicals» .entry)) (now («column_homes» .entry)) (now («column_logicals» .entry)) (now (marks .entry)) (now (starts .entry)) (now (entries .entry)) (now (words .entry))) x (now (answers .exit)) ≡ resultOf (fullOf (storeOf self (now (slots .entry)) (now (counts .entry)) (now («row_homes» .entry)) (now («row_logicals» .entry)) (now («column_homes» .entry)) (now («column_logicals» .entry)) (now (marks .entry)) (now (starts .entry)) (now (entries .entry)) (now (words .entry))) (now (answers .entry))) (step (op.Iter (record { r = r; a = a; b = b })) (fullOf (storeOf self (now (slots .entry)) (now (counts .entry)) (now («row_homes» .entry)) (now («row_logicals» .entry)) (now («column_homes» .entry)) (now («column_logicals» .entry)) (now (marks .entry)) (now (starts .entry)) (now (entries .entry)) (now (words .entry))) (now (answers .entry)))) ⌝ }
+        ensures { λ x. ⌜ listTold (storeOf (self .0) (now (slots .entry)) (now (counts .entry)) (now («row_homes» .entry)) (now («row_logicals» .entry)) (now («column_homes» .entry)) (now («column_logicals» .entry)) (now (marks .entry)) (now (starts .entry)) (now (entries .entry)) (now (words .entry))) x (now (answers .exit)) ≡ resultOf (fullOf (storeOf (self .0) (now (slots .entry)) (now (counts .entry)) (now («row_homes» .entry)) (now («row_logicals» .entry)) (now («column_homes» .entry)) (now («column_logicals» .entry)) (now (marks .entry)) (now (starts .entry)) (now (entries .entry)) (now (words .entry))) (now (answers .entry))) (step (op.Iter (record { r = r; a = a; b = b })) (fullOf (storeOf (self .0) (now (slots .entry)) (now (counts .entry)) (now («row_homes» .entry)) (now («row_logicals» .entry)) (now («column_homes» .entry)) (now («column_logicals» .entry)) (now (marks .entry)) (now (starts .entry)) (now (entries .entry)) (now (words .entry))) (now (answers .entry)))) ⌝ }
     {
-        if !self.well_formed(
+        if !store_check::well_formed(
+            self.0,
             slots,
             counts,
             row_homes,
@@ -192,7 +203,8 @@ impl Head {
         ) {
             return Listed::No(refusals::DAMAGED);
         }
-        self.get_row_iter_in(
+        row_lists::get_row_iter_in(
+            self.0,
             slots,
             counts,
             row_homes,
@@ -227,9 +239,10 @@ impl Head {
         r: u32,
         a: u32,
     ) -> Listed
-        ensures { λ x. ⌜ listTold (storeOf self (now (slots .entry)) (now (counts .entry)) (now («row_homes» .entry)) (now («row_logicals» .entry)) (now («column_homes» .entry)) (now («column_logicals» .entry)) (now (marks .entry)) (now (starts .entry)) (now (entries .entry)) (now (words .entry))) x (now (answers .exit)) ≡ resultOf (fullOf (storeOf self (now (slots .entry)) (now (counts .entry)) (now («row_homes» .entry)) (now («row_logicals» .entry)) (now («column_homes» .entry)) (now («column_logicals» .entry)) (now (marks .entry)) (now (starts .entry)) (now (entries .entry)) (now (words .entry))) (now (answers .entry))) (step (op.TailOnes (record { r = r; a = a })) (fullOf (storeOf self (now (slots .entry)) (now (counts .entry)) (now («row_homes» .entry)) (now («row_logicals» .entry)) (now («column_homes» .entry)) (now («column_logicals» .entry)) (now (marks .entry)) (now (starts .entry)) (now (entries .entry)) (now (words .entry))) (now (answers .entry)))) ⌝ }
+        ensures { λ x. ⌜ listTold (storeOf (self .0) (now (slots .entry)) (now (counts .entry)) (now («row_homes» .entry)) (now («row_logicals» .entry)) (now («column_homes» .entry)) (now («column_logicals» .entry)) (now (marks .entry)) (now (starts .entry)) (now (entries .entry)) (now (words .entry))) x (now (answers .exit)) ≡ resultOf (fullOf (storeOf (self .0) (now (slots .entry)) (now (counts .entry)) (now («row_homes» .entry)) (now («row_logicals» .entry)) (now («column_homes» .entry)) (now («column_logicals» .entry)) (now (marks .entry)) (now (starts .entry)) (now (entries .entry)) (now (words .entry))) (now (answers .entry))) (step (op.TailOnes (record { r = r; a = a })) (fullOf (storeOf (self .0) (now (slots .entry)) (now (counts .entry)) (now («row_homes» .entry)) (now («row_logicals» .entry)) (now («column_homes» .entry)) (now («column_logicals» .entry)) (now (marks .entry)) (now (starts .entry)) (now (entries .entry)) (now (words .entry))) (now (answers .entry)))) ⌝ }
     {
-        if !self.well_formed(
+        if !store_check::well_formed(
+            self.0,
             slots,
             counts,
             row_homes,
@@ -243,7 +256,8 @@ impl Head {
         ) {
             return Listed::No(refusals::DAMAGED);
         }
-        self.query_non_zero_columns_in(
+        row_lists::query_non_zero_columns_in(
+            self.0,
             slots,
             counts,
             row_homes,
@@ -276,9 +290,10 @@ impl Head {
         r: u32,
         a: u32,
     ) -> Number
-        ensures { λ x. ⌜ wordsSays (now (words .entry)) (getD (now («row_homes» .entry)) r 0 * wordsFor (self .n)) x ≡ replyOf (step (op.Words (record { r = r; a = a })) (fullOf (storeOf self (now (slots .entry)) (now (counts .entry)) (now («row_homes» .entry)) (now («row_logicals» .entry)) (now («column_homes» .entry)) (now («column_logicals» .entry)) (now (marks .entry)) (now (starts .entry)) (now (entries .entry)) (now (words .entry))) [])) ⌝ }
+        ensures { λ x. ⌜ wordsSays (now (words .entry)) (getD (now («row_homes» .entry)) r 0 * wordsFor (self .0 .n)) x ≡ replyOf (step (op.Words (record { r = r; a = a })) (fullOf (storeOf (self .0) (now (slots .entry)) (now (counts .entry)) (now («row_homes» .entry)) (now («row_logicals» .entry)) (now («column_homes» .entry)) (now («column_logicals» .entry)) (now (marks .entry)) (now (starts .entry)) (now (entries .entry)) (now (words .entry))) [])) ⌝ }
     {
-        if !self.well_formed(
+        if !store_check::well_formed(
+            self.0,
             slots,
             counts,
             row_homes,
@@ -292,7 +307,8 @@ impl Head {
         ) {
             return Number::No(refusals::DAMAGED);
         }
-        self.get_sub_row_in(
+        row_tail::get_sub_row_in(
+            self.0,
             slots,
             counts,
             row_homes,
@@ -324,9 +340,10 @@ impl Head {
         r: u32,
         a: u32,
     ) -> &'a [u64]
-        ensures { λ x. ⌜ now x ≡ handed (replyOf (step (op.Words (record { r = r; a = a })) (fullOf (storeOf self (now (slots .entry)) (now (counts .entry)) (now («row_homes» .entry)) (now («row_logicals» .entry)) (now («column_homes» .entry)) (now («column_logicals» .entry)) (now (marks .entry)) (now (starts .entry)) (now (entries .entry)) (now (words .entry))) []))) ⌝ }
+        ensures { λ x. ⌜ now x ≡ handed (replyOf (step (op.Words (record { r = r; a = a })) (fullOf (storeOf (self .0) (now (slots .entry)) (now (counts .entry)) (now («row_homes» .entry)) (now («row_logicals» .entry)) (now («column_homes» .entry)) (now («column_logicals» .entry)) (now (marks .entry)) (now (starts .entry)) (now (entries .entry)) (now (words .entry))) []))) ⌝ }
     {
-        if !self.well_formed(
+        if !store_check::well_formed(
+            self.0,
             slots,
             counts,
             row_homes,
@@ -340,7 +357,8 @@ impl Head {
         ) {
             return &words[..0];
         }
-        self.sub_row_in(
+        row_tail::sub_row_in(
+            self.0,
             slots,
             counts,
             row_homes,
@@ -374,9 +392,10 @@ impl Head {
         a: u32,
         b: u32,
     ) -> Listed
-        ensures { λ x. ⌜ listTold (storeOf self (now (slots .entry)) (now (counts .entry)) (now («row_homes» .entry)) (now («row_logicals» .entry)) (now («column_homes» .entry)) (now («column_logicals» .entry)) (now (marks .entry)) (now (starts .entry)) (now (entries .entry)) (now (words .entry))) x (now (answers .exit)) ≡ resultOf (fullOf (storeOf self (now (slots .entry)) (now (counts .entry)) (now («row_homes» .entry)) (now («row_logicals» .entry)) (now («column_homes» .entry)) (now («column_logicals» .entry)) (now (marks .entry)) (now (starts .entry)) (now (entries .entry)) (now (words .entry))) (now (answers .entry))) (step (op.ColOnes (record { c = c; a = a; b = b })) (fullOf (storeOf self (now (slots .entry)) (now (counts .entry)) (now («row_homes» .entry)) (now («row_logicals» .entry)) (now («column_homes» .entry)) (now («column_logicals» .entry)) (now (marks .entry)) (now (starts .entry)) (now (entries .entry)) (now (words .entry))) (now (answers .entry)))) ⌝ }
+        ensures { λ x. ⌜ listTold (storeOf (self .0) (now (slots .entry)) (now (counts .entry)) (now («row_homes» .entry)) (now («row_logicals» .entry)) (now («column_homes» .entry)) (now («column_logicals» .entry)) (now (marks .entry)) (now (starts .entry)) (now (entries .entry)) (now (words .entry))) x (now (answers .exit)) ≡ resultOf (fullOf (storeOf (self .0) (now (slots .entry)) (now (counts .entry)) (now («row_homes» .entry)) (now («row_logicals» .entry)) (now («column_homes» .entry)) (now («column_logicals» .entry)) (now (marks .entry)) (now (starts .entry)) (now (entries .entry)) (now (words .entry))) (now (answers .entry))) (step (op.ColOnes (record { c = c; a = a; b = b })) (fullOf (storeOf (self .0) (now (slots .entry)) (now (counts .entry)) (now («row_homes» .entry)) (now («row_logicals» .entry)) (now («column_homes» .entry)) (now («column_logicals» .entry)) (now (marks .entry)) (now (starts .entry)) (now (entries .entry)) (now (words .entry))) (now (answers .entry)))) ⌝ }
     {
-        if !self.well_formed(
+        if !store_check::well_formed(
+            self.0,
             slots,
             counts,
             row_homes,
@@ -390,7 +409,8 @@ impl Head {
         ) {
             return Listed::No(refusals::DAMAGED);
         }
-        self.get_ones_in_column_in(
+        column_list::get_ones_in_column_in(
+            self.0,
             slots,
             counts,
             row_homes,

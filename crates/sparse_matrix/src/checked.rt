@@ -1,9 +1,8 @@
 // The store check, as a method of the head.
 use crate::Head;
-use store_check::Numbers;
 ghost use mathlib.Core.Path.{_≡_};
 ghost use Rattle.model.specs.Check.{wellFormed};
-ghost use Rattle.sparse_matrix.specs.Lent.{storeOf};
+ghost use Rattle.store_head.specs.Lent.{storeOf};
 
 impl Head {
     // Whether this head and the lent slices are a well-formed store.
@@ -20,18 +19,10 @@ impl Head {
         entries: &[u32],
         words: &[u64],
     ) -> bool
-        ensures { λ x. ⌜ x ≡ wellFormed (storeOf self (now (slots .entry)) (now (counts .entry)) (now («row_homes» .entry)) (now («row_logicals» .entry)) (now («column_homes» .entry)) (now («column_logicals» .entry)) (now (marks .entry)) (now (starts .entry)) (now (entries .entry)) (now (words .entry))) ⌝ }
+        ensures { λ x. ⌜ x ≡ wellFormed (storeOf (self .0) (now (slots .entry)) (now (counts .entry)) (now («row_homes» .entry)) (now («row_logicals» .entry)) (now («column_homes» .entry)) (now («column_logicals» .entry)) (now (marks .entry)) (now (starts .entry)) (now (entries .entry)) (now (words .entry))) ⌝ }
     {
-        let d = Numbers {
-            h: self.h,
-            w: self.w,
-            n: self.n,
-            slots: self.slots,
-            made: self.made,
-            on: self.on,
-        };
         store_check::well_formed(
-            d,
+            self.0,
             slots,
             counts,
             row_homes,

@@ -1,57 +1,22 @@
 // The sparse matrix, after src/sparse_matrix.rs: a head by value, and ten lent slices beside it.
+use store_head::Numbers;
 ghost use mathlib.Core.Path.{_≡_};
-ghost use Rattle.sparse_matrix.specs.Lent.{headOf};
-ghost use Rattle.sparse_matrix.specs.Changes.{emptyHead};
+ghost use Rattle.store_head.specs.Lent.{headOf};
+ghost use Rattle.changes.specs.Changes.{emptyHead};
+ghost use Rattle.sparse_matrix.specs.Heads.{inside};
 
-mod add;
 mod alter;
 mod ask;
 mod checked;
-mod column_list;
-mod freeze;
 mod make;
-pub mod places;
-mod query;
-mod refusals;
-mod resize;
-mod row_lists;
-mod row_tail;
-mod set;
-mod swap;
-mod switch;
 
-// The matrix's numbers: "h rows and w columns; the last n are the tail", slots for each row, the width at making, the index switch.
-pub struct Head {
-    pub h: u32,
-    pub w: u32,
-    pub n: u32,
-    pub slots: u32,
-    pub made: u32,
-    pub on: bool,
-}
+pub use store_head::Listed;
+pub use store_head::Number;
+pub use store_head::Size;
+pub use store_head::Sized;
 
-// "The limits belong to the head's own type"
-impl Head {
-    pub const MAX_HEIGHT: u32 = 65535;
-
-    pub const MAX_WIDTH: u32 = 65535;
-
-    pub const MAX_SLOTS: u32 = 65535;
-
-    // The head of "a 0 by 0 store".
-    pub fn empty() -> Head
-        ensures { λ d. ⌜ headOf d ≡ emptyHead ⌝ }
-    {
-        Head {
-            h: 0,
-            w: 0,
-            n: 0,
-            slots: 0,
-            made: 0,
-            on: false,
-        }
-    }
-}
+// The head: the matrix's numbers, and the operations as its methods. Lent slices are passed beside it.
+pub struct Head(pub Numbers);
 
 // A changed store's new head, or the number of a refusal.
 pub enum Changed {
@@ -59,27 +24,38 @@ pub enum Changed {
     No(u32),
 }
 
-// A number, or the number of a refusal: GET, COUNT.
-pub enum Number {
-    Is(u32),
-    No(u32),
-}
+// "The limits belong to the head's own type"
+impl Head {
+    pub const MAX_HEIGHT: u32 = Numbers::MAX_HEIGHT;
 
-// How many of the first answer places hold the list, or the number of a refusal: ITER, TAILONES, COLONES.
-pub enum Listed {
-    Count(u32),
-    No(u32),
-}
+    pub const MAX_WIDTH: u32 = Numbers::MAX_WIDTH;
 
-// Height, width and tail.
-pub struct Size {
-    pub h: u32,
-    pub w: u32,
-    pub n: u32,
-}
+    pub const MAX_SLOTS: u32 = Numbers::MAX_SLOTS;
 
-// The sizes, or the number of a refusal.
-pub enum Sized {
-    Is(Size),
-    No(u32),
+    // The head of "a 0 by 0 store".
+    pub fn empty() -> Head
+        ensures { λ d. ⌜ headOf (d .0) ≡ emptyHead ⌝ }
+    {
+        Head(Numbers {
+            h: 0,
+            w: 0,
+            n: 0,
+            slots: 0,
+            made: 0,
+            on: false,
+        })
+    }
+
+    // The head after a change: with the new numbers, or the number that refuses it.
+    fn after(mut self, x: store_head::Changed) -> Changed
+        ensures { λ r. ⌜ inside r ≡ x ⌝ }
+    {
+        match x {
+            store_head::Changed::Done(d) => {
+                self.0 = d;
+                Changed::Done(self)
+            }
+            store_head::Changed::No(k) => Changed::No(k),
+        }
+    }
 }

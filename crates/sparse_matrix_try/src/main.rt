@@ -6,17 +6,18 @@ mod show;
 use sparse_matrix::Changed;
 use sparse_matrix::Head;
 use sparse_matrix::Listed;
+use store_head::Numbers;
 
 // The numbers of the store.
 fn head(on: bool) -> Head {
-    Head {
+    Head(Numbers {
         h: 2,
         w: 3,
         n: 1,
         slots: 2,
         made: 3,
         on: on,
-    }
+    })
 }
 
 // GET of row 1, column 1.
@@ -552,14 +553,14 @@ fn on_asked(mark: u8, start: u64, entry: u32) {
 
 // The numbers of the head as given.
 fn other_head(n: u32, slots: u32) -> Head {
-    Head {
+    Head(Numbers {
         h: 2,
         w: 3,
         n: n,
         slots: slots,
         made: 3,
         on: false,
-    }
+    })
 }
 
 fn main() {

@@ -1,9 +1,9 @@
 // The column index.
+use store_head::Numbers;
 ghost use mathlib.Core.Path.{_≡_};
 ghost use Rattle.store_check.specs.Asked.{CanSwitch};
-ghost use Rattle.store_check.specs.Lent.{headOf};
+ghost use Rattle.store_head.specs.Lent.{headOf};
 ghost use Rattle.store_check.specs.Pieces.{offOk, switchOk};
-use crate::Numbers;
 
 // Whether an index that is off is dropped: "every index start and entry is zero, all marks exact" (01), that is 0.
 fn off_ok(starts: &[u64], entries: &[u32], marks: &[u8]) -> bool

@@ -1,22 +1,13 @@
 // The store check: whether a head's numbers and the ten lent slices are a well-formed store (01, "Well-formed means all of this"). Any numbers, any lengths.
+use store_head::Numbers;
 ghost use mathlib.Core.Path.{_≡_};
 ghost use Rattle.model.specs.Check.{wellFormed};
-ghost use Rattle.store_check.specs.Lent.{storeOf};
+ghost use Rattle.store_head.specs.Lent.{storeOf};
 
 mod index;
 mod lists;
 mod rows;
 mod sizes;
-
-// The numbers of a head.
-pub struct Numbers {
-    pub h: u32,
-    pub w: u32,
-    pub n: u32,
-    pub slots: u32,
-    pub made: u32,
-    pub on: bool,
-}
 
 // Whether the store is well-formed. The tests go from the head's numbers inward, and each leans on those before it: nothing is read at a place, or
 // multiplied, before it is known to fit.

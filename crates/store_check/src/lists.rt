@@ -1,9 +1,9 @@
 // Tests of whole buffers: the maps, and the places that nothing uses.
+use store_head::Numbers;
 ghost use mathlib.Core.Path.{_≡_};
 ghost use Rattle.store_check.specs.Asked.{Limited};
-ghost use Rattle.store_check.specs.Lent.{headOf};
+ghost use Rattle.store_head.specs.Lent.{headOf};
 ghost use Rattle.store_check.specs.Pieces.{mapsOk, unusedOk};
-use crate::Numbers;
 
 // Whether the maps are inverse to each other, of rows over 0..h and of columns over the width at making.
 pub fn maps_ok(

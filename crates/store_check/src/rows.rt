@@ -1,9 +1,9 @@
 // The home rows' lists.
+use store_head::Numbers;
 ghost use mathlib.Core.Path.{_≡_};
 ghost use Rattle.store_check.specs.Asked.{HasRow, HasRows};
-ghost use Rattle.store_check.specs.Lent.{headOf};
+ghost use Rattle.store_head.specs.Lent.{headOf};
 ghost use Rattle.store_check.specs.Pieces.{rowOk, rowsOk};
-use crate::Numbers;
 
 // Whether home row y has at most its k slots, lists made columns strictly rising with logical numbers below `edge`, and is zero in the slots after them.
 fn row_ok(slots: &[u16], counts: &[u16], logicals: &[u16], k: usize, edge: u32, y: usize) -> bool

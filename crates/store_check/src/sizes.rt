@@ -1,27 +1,20 @@
 // The head's numbers, and the lengths that they ask for.
+use store_head::Numbers;
 ghost use mathlib.Core.Path.{_≡_};
 ghost use Rattle.model.specs.Check.{headTest};
 ghost use Rattle.store_check.specs.Asked.{Limited};
-ghost use Rattle.store_check.specs.Lent.{headOf};
+ghost use Rattle.store_head.specs.Lent.{headOf};
 ghost use Rattle.store_check.specs.Pieces.{longOk};
-use crate::Numbers;
 
-// "h and w 0 to 65,535, n at most w, slots 0 to 65,535" (01), w at most the width at making.
-const HEIGHT_LIMIT: u32 = 65535;
-
-const WIDTH_LIMIT: u32 = 65535;
-
-const SLOT_LIMIT: u32 = 65535;
-
-// Whether the head's numbers keep the limits.
+// Whether the head's numbers keep the limits: "h and w 0 to 65,535, n at most w, slots 0 to 65,535" (01), and w is at most the width at making.
 pub fn head_ok(d: Numbers) -> bool
     ensures { λ r. ⌜ r ≡ headTest (headOf d) ⌝ }
 {
-    (d.h <= HEIGHT_LIMIT)
-        & (d.made <= WIDTH_LIMIT)
+    (d.h <= Numbers::MAX_HEIGHT)
+        & (d.made <= Numbers::MAX_WIDTH)
         & (d.w <= d.made)
         & (d.n <= d.w)
-        & (d.slots <= SLOT_LIMIT)
+        & (d.slots <= Numbers::MAX_SLOTS)
 }
 
 // Whether the buffers are long enough for the head's numbers. (The maps are measured with their own test, and the entries with the index.)

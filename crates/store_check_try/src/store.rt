@@ -1,5 +1,5 @@
 // A small store, and the check on it.
-use store_check::Numbers;
+use store_head::Numbers;
 
 // The head's numbers and the ten buffers, each longer than the numbers ask for.
 pub struct Store {

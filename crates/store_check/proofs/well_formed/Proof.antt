@@ -7,7 +7,7 @@ use lib.ListN.{length}
 use borrow.Author.Needs.{needs}
 use Rattle.model.specs.Store.{Store}
 use Rattle.model.specs.WellFormed.{Limits}
-use Rattle.store_check.specs.Lent.{storeOf}
+use Rattle.store_head.specs.Lent.{storeOf}
 use Rattle.store_check.specs.Asked.{Limited}
 use Rattle.store_check.proofs.Verdict.{stops, passes, limited, fails-head, fails-lengths, fails-maps, fails-unused, fails-rows, fails-padding, verdict, limits, has-rows, columns-mapped, can-switch}
 use Rattle.store_check.proofs.well_formed.Statement.{statement}

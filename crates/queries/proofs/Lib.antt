@@ -1,0 +1,5 @@
+pub mod QueryPlaces
+pub mod QueryNumbers
+pub mod QueryLists
+pub mod QueryColumn
+pub mod QueryWords

@@ -1,0 +1,3 @@
+pub mod Freezes
+pub mod Resizes
+pub mod Shrinks

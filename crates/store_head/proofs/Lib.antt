@@ -1,0 +1,6 @@
+pub mod Ends
+pub mod Replies
+pub mod Refuses
+pub mod Calls
+pub mod Slices
+pub mod Parts

@@ -1,0 +1,4 @@
+pub mod Lent
+pub mod Told
+pub mod Query
+pub mod Refused
