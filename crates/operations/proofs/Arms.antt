@@ -15,18 +15,18 @@ use Rattle.model.specs.Store.{Store, Full, tableOf, heldOf}
 use Rattle.model.specs.WellFormed.{WellFormed}
 use Rattle.model.specs.Step as model
 use Rattle.model.specs.Step.{Result, inner, step, resultOf}
-use Rattle.sparse_matrix.specs.declared.Head.{Head}
-use Rattle.sparse_matrix.specs.declared.Changed.{Changed}
-use Rattle.sparse_matrix.specs.declared.Changed.the-variants as changed
-use Rattle.sparse_matrix.specs.declared.Number.{Number}
-use Rattle.sparse_matrix.specs.declared.Number.the-variants as numbered
-use Rattle.sparse_matrix.specs.declared.Listed.{Listed}
-use Rattle.sparse_matrix.specs.declared.Listed.the-variants as listed
-use Rattle.sparse_matrix.specs.declared.Sized.{Sized}
-use Rattle.sparse_matrix.specs.declared.Sized.the-variants as sized
-use Rattle.sparse_matrix.specs.Lent.{fullOf}
-use Rattle.sparse_matrix.proofs.Calls.{make-any}
-use Rattle.sparse_matrix.specs.Told.{numberSays, sizeSays, listTold, changedTold, wordsSays}
+use Rattle.store_head.specs.declared.Numbers.{Numbers}
+use Rattle.store_head.specs.declared.Changed.{Changed}
+use Rattle.store_head.specs.declared.Changed.the-variants as changed
+use Rattle.store_head.specs.declared.Number.{Number}
+use Rattle.store_head.specs.declared.Number.the-variants as numbered
+use Rattle.store_head.specs.declared.Listed.{Listed}
+use Rattle.store_head.specs.declared.Listed.the-variants as listed
+use Rattle.store_head.specs.declared.Sized.{Sized}
+use Rattle.store_head.specs.declared.Sized.the-variants as sized
+use Rattle.store_head.specs.Lent.{fullOf}
+use Rattle.store_head.proofs.Calls.{make-any}
+use Rattle.store_head.specs.Told.{numberSays, sizeSays, listTold, changedTold, wordsSays}
 use Rattle.operations.specs.declared.Told.{Told}
 use Rattle.operations.specs.Applied.{ofNumber, ofWords, ofSized, ofListed, partAt, Form, number, sizes, list, words, form, askedTold}
 

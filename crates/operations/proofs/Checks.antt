@@ -11,19 +11,19 @@ use Rattle.model.specs.Store.{Store}
 use Rattle.model.specs.WellFormed.{WellFormed}
 use Rattle.model.specs.Check.{wellFormed}
 use Rattle.model.specs.Step.{Result, inner, step, resultOf}
-use Rattle.sparse_matrix.specs.declared.Head.{Head}
-use Rattle.sparse_matrix.specs.declared.Changed.{Changed}
-use Rattle.sparse_matrix.specs.declared.Changed.the-variants as changed
-use Rattle.sparse_matrix.specs.Lent.{storeOf, fullOf}
-use Rattle.sparse_matrix.specs.Told.{changedTold}
-use Rattle.sparse_matrix.proofs.Calls.{sound, damaged-result, whole, make-any}
+use Rattle.store_head.specs.declared.Numbers.{Numbers}
+use Rattle.store_head.specs.declared.Changed.{Changed}
+use Rattle.store_head.specs.declared.Changed.the-variants as changed
+use Rattle.store_head.specs.Lent.{storeOf, fullOf}
+use Rattle.store_head.specs.Told.{changedTold}
+use Rattle.store_head.proofs.Calls.{sound, damaged-result, whole, make-any}
 use Rattle.operations.specs.declared.Applied.{Applied}
 use Rattle.operations.specs.Applied.{asks, ofChanged, form, appliedTold}
 use Rattle.operations.proofs.Arms.{aside}
 use Rattle.operations.proofs.Others.{change-lists-none, change-form}
 
 -- ---- a change stands beside the answer buffer
-pub change-done : (o : Op) → asks o ≡ false → (at : ℕ) (d : Head) (x : Changed) (r : Applied) → r ≡ ofChanged d x
+pub change-done : (o : Op) → asks o ≡ false → (at : ℕ) (d : Numbers) (x : Changed) (r : Applied) → r ≡ ofChanged d x
     → (S C RH RL CH CL M T E W : List ℕ) (s : Store) (a : List ℕ)
     → changedTold d x (λ e. storeOf e S C RH RL CH CL M T E W) ≡ resultOf (fullOf s []) (inner o (fullOf s []))
     → appliedTold (form o) at r (λ e. storeOf e S C RH RL CH CL M T E W) a ≡ resultOf (fullOf s a) (inner o (fullOf s a))

@@ -15,8 +15,8 @@ use Rattle.table.specs.Run.{Reply, ok, nay, replyOf}
 use Rattle.model.specs.Store.{Full, tableOf, heldOf}
 use Rattle.model.specs.Check.{wellFormed}
 use Rattle.model.specs.Step.{Result, fullAfter, step, resultOf}
-use Rattle.sparse_matrix.proofs.Refuses.{counted}
-use Rattle.sparse_matrix.proofs.Determined.{Slices, over, lists, same-head}
+use Rattle.store_head.proofs.Refuses.{counted}
+use Rattle.store_head.proofs.Slices.{Slices, over, lists, same-head}
 use Rattle.operations.specs.declared.Told.{Told}
 use Rattle.operations.specs.declared.Told.the-variants as told
 use Rattle.operations.specs.declared.Applied.{Applied}

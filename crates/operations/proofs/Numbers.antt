@@ -11,13 +11,13 @@ use Rattle.table.specs.Room.{kind, listed, allChecks}
 use Rattle.table.specs.Run.{nay, replyOf}
 use Rattle.model.specs.Store.{Store, Full, tableOf, heldOf}
 use Rattle.model.specs.Step.{fullAfter, inner}
-use Rattle.sparse_matrix.specs.declared.Number.{Number}
-use Rattle.sparse_matrix.specs.declared.Number.the-variants as numbered
-use Rattle.sparse_matrix.specs.Lent.{fullOf}
-use Rattle.sparse_matrix.specs.Refused.{refusalOf}
-use Rattle.sparse_matrix.specs.Told.{numberSays, wordsSays}
-use Rattle.sparse_matrix.proofs.Refuses.{same-number}
-use Rattle.sparse_matrix.proofs.Replies.{numberIn, never}
+use Rattle.store_head.specs.declared.Number.{Number}
+use Rattle.store_head.specs.declared.Number.the-variants as numbered
+use Rattle.store_head.specs.Lent.{fullOf}
+use Rattle.store_head.specs.Refused.{refusalOf}
+use Rattle.store_head.specs.Told.{numberSays, wordsSays}
+use Rattle.store_head.proofs.Refuses.{same-number}
+use Rattle.store_head.proofs.Replies.{numberIn, never}
 use Rattle.operations.specs.Applied.{refusedIn}
 
 -- ---- the answer buffer decides nothing where no list is answered

@@ -9,16 +9,16 @@ use Rattle.table.specs.declared.Op.the-variants as op
 use Rattle.table.specs.Run.{Reply, ok, nay}
 use Rattle.model.specs.Store as model
 use Rattle.model.specs.Step.{Result}
-use Rattle.sparse_matrix.specs.declared.Head.{Head}
-use Rattle.sparse_matrix.specs.declared.Changed.{Changed}
-use Rattle.sparse_matrix.specs.declared.Changed.the-variants as changed
-use Rattle.sparse_matrix.specs.declared.Number.{Number}
-use Rattle.sparse_matrix.specs.declared.Number.the-variants as numbered
-use Rattle.sparse_matrix.specs.declared.Listed.{Listed}
-use Rattle.sparse_matrix.specs.declared.Listed.the-variants as listed
-use Rattle.sparse_matrix.specs.declared.Sized.{Sized}
-use Rattle.sparse_matrix.specs.declared.Sized.the-variants as sized
-use Rattle.sparse_matrix.specs.Lent.{fullOf}
+use Rattle.store_head.specs.declared.Numbers.{Numbers}
+use Rattle.store_head.specs.declared.Changed.{Changed}
+use Rattle.store_head.specs.declared.Changed.the-variants as changed
+use Rattle.store_head.specs.declared.Number.{Number}
+use Rattle.store_head.specs.declared.Number.the-variants as numbered
+use Rattle.store_head.specs.declared.Listed.{Listed}
+use Rattle.store_head.specs.declared.Listed.the-variants as listed
+use Rattle.store_head.specs.declared.Sized.{Sized}
+use Rattle.store_head.specs.declared.Sized.the-variants as sized
+use Rattle.store_head.specs.Lent.{fullOf}
 use Rattle.operations.specs.declared.Told.{Told}
 use Rattle.operations.specs.declared.Told.the-variants as told
 use Rattle.operations.specs.declared.Applied.{Applied}
@@ -41,7 +41,7 @@ ofListed (listed.Count c) = told.List c
 ofListed (listed.No k) = told.No k
 
 -- .. and the head afterwards: the new one, or the old one where the change is refused
-abbrev pub ofChanged : Head → Changed → Applied
+abbrev pub ofChanged : Numbers → Changed → Applied
 ofChanged d (changed.Done e) = record { head = e; told = told.Done }
 ofChanged d (changed.No k) = record { head = d; told = told.No k }
 
@@ -151,5 +151,5 @@ abbrev pub askedTold : Form → ℕ → model.Store → Told → List ℕ → Re
 askedTold f at s t answers = record { reply = says t f at (s .words) answers; after = fullOf s answers }
 
 -- any operation: the store over the head that is handed back
-abbrev pub appliedTold : Form → ℕ → Applied → (Head → model.Store) → List ℕ → Result
+abbrev pub appliedTold : Form → ℕ → Applied → (Numbers → model.Store) → List ℕ → Result
 appliedTold f at a left answers = askedTold f at (left (a .head)) (a .told) answers

@@ -1,18 +1,22 @@
 // The seven operations that ask the store.
 use crate::Told;
 use crate::tell;
-use sparse_matrix::Head;
+use queries::column_list;
+use queries::query;
+use queries::row_lists;
+use queries::row_tail;
+use store_head::Numbers;
 use table::Op;
 ghost use mathlib.Core.Path.{_≡_};
 ghost use mathlib.Core.Bool.{true};
 ghost use Rattle.model.specs.WellFormed.{WellFormed};
 ghost use Rattle.model.specs.Step.{inner, resultOf};
-ghost use Rattle.sparse_matrix.specs.Lent.{storeOf, fullOf};
+ghost use Rattle.store_head.specs.Lent.{storeOf, fullOf};
 ghost use Rattle.operations.specs.Applied.{asks, form, partAt, askedTold};
 
 // An operation that asks a well-formed store: at most the first places of the answer buffer change.
 pub fn ask(
-    head: Head,
+    head: Numbers,
     slots: &[u16],
     counts: &[u16],
     row_homes: &[u32],
@@ -32,7 +36,8 @@ pub fn ask(
 {
     match op {
         Op::Get(p) => {
-            let x = head.get_in(
+            let x = query::get_in(
+                head,
                 slots,
                 counts,
                 row_homes,
@@ -49,7 +54,8 @@ pub fn ask(
             tell::number(x)
         }
         Op::Count(p) => {
-            let x = head.count_ones_in(
+            let x = query::count_ones_in(
+                head,
                 slots,
                 counts,
                 row_homes,
@@ -67,7 +73,8 @@ pub fn ask(
             tell::number(x)
         }
         Op::Words(p) => {
-            let x = head.get_sub_row_in(
+            let x = row_tail::get_sub_row_in(
+                head,
                 slots,
                 counts,
                 row_homes,
@@ -84,7 +91,8 @@ pub fn ask(
             tell::words(x)
         }
         Op::TailOnes(p) => {
-            let x = head.query_non_zero_columns_in(
+            let x = row_lists::query_non_zero_columns_in(
+                head,
                 slots,
                 counts,
                 row_homes,
@@ -102,7 +110,8 @@ pub fn ask(
             tell::listed(x)
         }
         Op::Iter(p) => {
-            let x = head.get_row_iter_in(
+            let x = row_lists::get_row_iter_in(
+                head,
                 slots,
                 counts,
                 row_homes,
@@ -121,7 +130,8 @@ pub fn ask(
             tell::listed(x)
         }
         Op::ColOnes(p) => {
-            let x = head.get_ones_in_column_in(
+            let x = column_list::get_ones_in_column_in(
+                head,
                 slots,
                 counts,
                 row_homes,
@@ -140,7 +150,8 @@ pub fn ask(
             tell::listed(x)
         }
         Op::Size => {
-            let x = head.size_in(
+            let x = query::size_in(
+                head,
                 slots,
                 counts,
                 row_homes,

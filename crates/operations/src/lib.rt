@@ -1,6 +1,7 @@
 // One call for any of the sixteen operations: `call` checks the store, `apply` is its twin for a store that is known to be well-formed.
-use sparse_matrix::Head;
-use sparse_matrix::Size;
+use store_head::Numbers;
+use store_head::Size;
+use store_head::refusals;
 use table::Op;
 ghost use mathlib.Core.Path.{_≡_};
 ghost use mathlib.Core.Bool.{false, _||_};
@@ -8,11 +9,11 @@ ghost use Rattle.table.specs.Room.{kind, isMake};
 ghost use Rattle.model.specs.WellFormed.{WellFormed};
 ghost use Rattle.model.specs.Check.{wellFormed};
 ghost use Rattle.model.specs.Step.{step, inner, resultOf};
-ghost use Rattle.sparse_matrix.specs.Lent.{storeOf, fullOf};
+ghost use Rattle.store_head.specs.Lent.{storeOf, fullOf};
 ghost use Rattle.operations.specs.Applied.{asks, form, partAt, appliedTold};
 
 mod asks;
-mod changes;
+mod change;
 pub mod refuse;
 mod tell;
 
@@ -29,12 +30,9 @@ pub enum Told {
 
 // The head afterwards, and what is told.
 pub struct Applied {
-    pub head: Head,
+    pub head: Numbers,
     pub told: Told,
 }
-
-// The number of a refusal that one call gives by itself: 01, "not well-formed (all but MAKE)".
-const DAMAGED: u32 = 1;
 
 // Whether an operation is MAKE, which needs no store before it.
 fn is_make(op: Op) -> bool
@@ -64,7 +62,7 @@ fn is_question(op: Op) -> bool
 
 // Whether the store is no hindrance: it is well-formed, or MAKE is to make it.
 fn may_go(
-    head: Head,
+    head: Numbers,
     slots: &[u16],
     counts: &[u16],
     row_homes: &[u32],
@@ -82,7 +80,8 @@ fn may_go(
     if is_make(op) {
         return true;
     }
-    head.well_formed(
+    store_check::well_formed(
+        head,
         slots,
         counts,
         row_homes,
@@ -98,7 +97,7 @@ fn may_go(
 
 // Any operation on a store that is well-formed, or that MAKE is to make.
 pub fn apply(
-    head: Head,
+    head: Numbers,
     slots: &mut [u16],
     counts: &mut [u16],
     row_homes: &mut [u32],
@@ -136,7 +135,7 @@ pub fn apply(
             told: told,
         };
     }
-    let left = changes::change(
+    let left = change::change(
         head,
         slots,
         counts,
@@ -155,7 +154,7 @@ pub fn apply(
 
 // Any operation on any store and any numbers: it checks the store itself.
 pub fn call(
-    head: Head,
+    head: Numbers,
     slots: &mut [u16],
     counts: &mut [u16],
     row_homes: &mut [u32],
@@ -187,7 +186,7 @@ pub fn call(
     ) {
         return Applied {
             head: head,
-            told: Told::No(DAMAGED),
+            told: Told::No(refusals::DAMAGED),
         };
     }
     apply(

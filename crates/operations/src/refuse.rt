@@ -1,14 +1,25 @@
 // Which number refuses an operation, before anything is written: one decision for all sixteen, in 01's order, by the functions that the operations themselves go by.
-use sparse_matrix::Head;
-use sparse_matrix::Number;
+use changes::add;
+use changes::make;
+use changes::set;
+use changes::swap;
+use changes::switch;
+use queries::column_list;
+use queries::query;
+use queries::row_lists;
+use queries::row_tail;
+use reshape::freeze;
+use reshape::resize;
+use store_head::Number;
+use store_head::Numbers;
 use table::Op;
 ghost use mathlib.Core.Path.{_≡_};
 ghost use mathlib.Core.Bool.{false};
 ghost use Rattle.table.specs.Room.{kind, isMake};
 ghost use Rattle.model.specs.WellFormed.{WellFormed};
 ghost use Rattle.model.specs.Step.{inner};
-ghost use Rattle.sparse_matrix.specs.Lent.{storeOf, fullOf};
-ghost use Rattle.sparse_matrix.specs.Refused.{refusalOf};
+ghost use Rattle.store_head.specs.Lent.{storeOf, fullOf};
+ghost use Rattle.store_head.specs.Refused.{refusalOf};
 ghost use Rattle.operations.specs.Applied.{refusedIn};
 
 // The number of a refusal that an answer holds, and 0 where it is none.
@@ -23,7 +34,7 @@ fn no_number(x: Number) -> u32
 
 // The number that refuses `op`, and 0 where none does. It changes nothing.
 pub fn refusal(
-    head: Head,
+    head: Numbers,
     slots: &[u16],
     counts: &[u16],
     row_homes: &[u32],
@@ -41,7 +52,8 @@ pub fn refusal(
     ensures { λ k. ⌜ k ≡ refusalOf (inner op (fullOf (storeOf head (now (slots .entry)) (now (counts .entry)) (now («row_homes» .entry)) (now («row_logicals» .entry)) (now («column_homes» .entry)) (now («column_logicals» .entry)) (now (marks .entry)) (now (starts .entry)) (now (entries .entry)) (now (words .entry))) (now (answers .entry)))) ⌝ }
 {
     match op {
-        Op::Make(p) => head.refuse_make(
+        Op::Make(p) => make::refuse_make(
+            head,
             slots,
             counts,
             row_homes,
@@ -57,7 +69,8 @@ pub fn refusal(
             p.n,
             p.slots,
         ),
-        Op::Set(p) => head.refuse_set(
+        Op::Set(p) => set::refuse_set(
+            head,
             slots,
             counts,
             row_homes,
@@ -72,9 +85,10 @@ pub fn refusal(
             p.c,
             p.v,
         ),
-        Op::SwapR(p) => head.refuse_swap_rows(p.i, p.j),
-        Op::SwapC(p) => head.refuse_swap_columns(p.i, p.j),
-        Op::Add(p) => head.refuse_add(
+        Op::SwapR(p) => swap::refuse_swap_rows(head, p.i, p.j),
+        Op::SwapC(p) => swap::refuse_swap_columns(head, p.i, p.j),
+        Op::Add(p) => add::refuse_add(
+            head,
             slots,
             counts,
             row_homes,
@@ -89,7 +103,8 @@ pub fn refusal(
             p.s,
             p.start,
         ),
-        Op::On => head.refuse_on(
+        Op::On => switch::refuse_on(
+            head,
             slots,
             counts,
             row_homes,
@@ -102,7 +117,8 @@ pub fn refusal(
             words,
         ),
         Op::Off => 0,
-        Op::Freeze(p) => head.refuse_freeze(
+        Op::Freeze(p) => freeze::refuse_freeze(
+            head,
             slots,
             counts,
             row_homes,
@@ -115,8 +131,9 @@ pub fn refusal(
             words,
             p.c,
         ),
-        Op::Resize(p) => head.refuse_resize(p.h, p.w),
-        Op::Get(p) => no_number(head.get_in(
+        Op::Resize(p) => resize::refuse_resize(head, p.h, p.w),
+        Op::Get(p) => no_number(query::get_in(
+            head,
             slots,
             counts,
             row_homes,
@@ -130,7 +147,8 @@ pub fn refusal(
             p.r,
             p.c,
         )),
-        Op::Count(p) => no_number(head.count_ones_in(
+        Op::Count(p) => no_number(query::count_ones_in(
+            head,
             slots,
             counts,
             row_homes,
@@ -145,7 +163,8 @@ pub fn refusal(
             p.a,
             p.b,
         )),
-        Op::Words(p) => no_number(head.get_sub_row_in(
+        Op::Words(p) => no_number(row_tail::get_sub_row_in(
+            head,
             slots,
             counts,
             row_homes,
@@ -159,7 +178,8 @@ pub fn refusal(
             p.r,
             p.a,
         )),
-        Op::TailOnes(p) => head.refuse_tail_ones(
+        Op::TailOnes(p) => row_lists::refuse_tail_ones(
+            head,
             slots,
             counts,
             row_homes,
@@ -174,7 +194,8 @@ pub fn refusal(
             p.r,
             p.a,
         ),
-        Op::Iter(p) => head.refuse_iter(
+        Op::Iter(p) => row_lists::refuse_iter(
+            head,
             slots,
             counts,
             row_homes,
@@ -190,7 +211,8 @@ pub fn refusal(
             p.a,
             p.b,
         ),
-        Op::ColOnes(p) => head.refuse_col_ones(
+        Op::ColOnes(p) => column_list::refuse_col_ones(
+            head,
             slots,
             counts,
             row_homes,

@@ -1,11 +1,11 @@
 // What each kind of call answers, as what one call for any operation tells.
 use crate::Applied;
 use crate::Told;
-use sparse_matrix::Changed;
-use sparse_matrix::Head;
-use sparse_matrix::Listed;
-use sparse_matrix::Number;
-use sparse_matrix::Sized;
+use store_head::Changed;
+use store_head::Listed;
+use store_head::Number;
+use store_head::Numbers;
+use store_head::Sized;
 ghost use mathlib.Core.Path.{_≡_};
 ghost use Rattle.operations.specs.Applied.{ofChanged, ofNumber, ofWords, ofSized, ofListed};
 
@@ -50,7 +50,7 @@ pub fn listed(x: Listed) -> Told
 }
 
 // What an operation that changes the store leaves: the new head, or the old one where it is refused.
-pub fn changed(head: Head, x: Changed) -> Applied
+pub fn changed(head: Numbers, x: Changed) -> Applied
     ensures { λ a. ⌜ a ≡ ofChanged head x ⌝ }
 {
     match x {

@@ -5,19 +5,20 @@ mod show;
 use operations::Told;
 use records::Read;
 use sparse_matrix::Head;
+use store_head::Numbers;
 use table::Op;
 ghost use Prim.Native.Nat.{_≤_, _<_};
 ghost use lib.ListN.{length};
 
 // The head afterwards, and where reading goes on.
 struct Went {
-    head: Head,
+    head: Numbers,
     next: usize,
 }
 
 // The line of WORDS: the row's part of the lent words.
 fn words_line(
-    d: Head,
+    d: Numbers,
     slots: &[u16],
     counts: &[u16],
     row_homes: &[u32],
@@ -31,7 +32,7 @@ fn words_line(
     op: Op,
 ) {
     match op {
-        Op::Words(p) => show::words(d.sub_row(
+        Op::Words(p) => show::words(Head(d).sub_row(
             slots,
             counts,
             row_homes,
@@ -51,7 +52,7 @@ fn words_line(
 
 // One operation and its line.
 fn step(
-    d: Head,
+    d: Numbers,
     slots: &mut [u16],
     counts: &mut [u16],
     row_homes: &mut [u32],
@@ -64,7 +65,7 @@ fn step(
     words: &mut [u64],
     answers: &mut [u32],
     op: Op,
-) -> Head {
+) -> Numbers {
     let a = operations::call(
         d,
         slots,
@@ -104,7 +105,7 @@ fn step(
 
 // One record and its line.
 fn turn(
-    d: Head,
+    d: Numbers,
     script: &[u8],
     at: usize,
     slots: &mut [u16],
@@ -180,7 +181,7 @@ fn main() {
     let mut entries = [0u32; 5];
     let mut words = [0u64; 6];
     let mut answers = [0u32; 2];
-    let mut d = Head::empty();
+    let mut d = Head::empty().0;
     let mut at = 0;
     while at < n {
         let t = turn(

@@ -23,13 +23,13 @@ use Rattle.table.specs.Run.{Reply, ok, nay, replyOf}
 use Rattle.model.specs.Store.{Store, Full, homeRow, tableOf}
 use Rattle.model.specs.WellFormed.{WellFormed}
 use Rattle.model.specs.Step.{Result, fullAfter, step, inner, resultOf}
-use Rattle.sparse_matrix.specs.Lent.{fullOf}
-use Rattle.sparse_matrix.specs.Refused.{refusalOf}
-use Rattle.sparse_matrix.proofs.Refuses.{accepted, none-told}
-use Rattle.sparse_matrix.proofs.Replies.{values}
-use Rattle.sparse_matrix.proofs.QueryPlaces.{words-in}
+use Rattle.store_head.specs.Lent.{fullOf}
+use Rattle.store_head.specs.Refused.{refusalOf}
+use Rattle.store_head.proofs.Refuses.{accepted, none-told}
+use Rattle.store_head.proofs.Replies.{values}
+use Rattle.queries.proofs.QueryPlaces.{words-in}
 use Rattle.lines.specs.Line.{lineOf, lineLong}
-use Rattle.sparse_matrix.specs.declared.Head.{Head}
+use Rattle.store_head.specs.declared.Numbers.{Numbers}
 use Rattle.operations.specs.declared.Told.{Told}
 use Rattle.operations.specs.declared.Told.the-variants as told
 use Rattle.operations.specs.Applied.{Form, done, number, sizes, list, words, form, partAt, says, askedTold}
@@ -253,10 +253,10 @@ no-part (op.ColOnes p) s h = refl
 no-part op.Size s h = refl
 
 -- a row past the map has the home 0
-pub part-past : (o : Op) (p : RowTail) → o ≡ op.Words p → (d : Head) (homes : List ℕ) (r : ℕ) → r ≡ p .r → length homes ≤ r → 0 ≡ partAt o (homesOf d homes)
+pub part-past : (o : Op) (p : RowTail) → o ≡ op.Words p → (d : Numbers) (homes : List ℕ) (r : ℕ) → r ≡ p .r → length homes ≤ r → 0 ≡ partAt o (homesOf d homes)
 part-past o p e d homes r er h = rw (e, List·getD-eq-default homes 0 {n = p .r} (omega arith)) (omega arith)
 
-pub part-of : (o : Op) (p : RowTail) → o ≡ op.Words p → (d : Head) (homes : List ℕ) (r y k : ℕ) → r ≡ p .r → y ≡ getD homes r 0 → k ≡ wordsFor (d .n) → y * k ≡ partAt o (homesOf d homes)
+pub part-of : (o : Op) (p : RowTail) → o ≡ op.Words p → (d : Numbers) (homes : List ℕ) (r y k : ℕ) → r ≡ p .r → y ≡ getD homes r 0 → k ≡ wordsFor (d .n) → y * k ≡ partAt o (homesOf d homes)
 part-of o p e d homes r y k er ey ek = rw (e, ey, er, ek)
 
 -- the product fits 64 bits

@@ -18,7 +18,7 @@ use Rattle.records.specs.declared.Read.the-variants.{Whole, Wrong, Cut, End}
 use Rattle.records.specs.Reading.{readAt}
 use Rattle.records.specs.Records.{recordsAt, recordsOf}
 use Rattle.lines.specs.Line.{lineOf, lineLong}
-use Rattle.sparse_matrix.specs.declared.Head.{Head}
+use Rattle.store_head.specs.declared.Numbers.{Numbers}
 use Rattle.script.specs.declared.Stand.{Stand}
 use Rattle.script.specs.declared.Ran.{Ran}
 use Rattle.script.specs.declared.Ran.the-variants as ran
@@ -98,13 +98,13 @@ abbrev pub turnOf : List ℕ → ℕ → ℕ → List ℕ → Full → Turned Fu
 turnOf s at used out f = turnRead (readAt s at) (length s) at used out f
 
 -- ---- what the code hands back, in these words
-abbrev pub turnTold : {S : Type 0} → Turn → (Head → S) → List ℕ → Turned S
+abbrev pub turnTold : {S : Type 0} → Turn → (Numbers → S) → List ℕ → Turned S
 turnTold t left lines = record { went = t .went; at = t .at; used = t .used; after = left (t .head); lines = lines }
 
-abbrev pub standTold : Stand → (Head → Full) → List ℕ → Left
-standTold x left lines = stands (x .done) (x .written) (left (x .head)) lines
+abbrev pub standTold : Stand → (Numbers → Full) → List ℕ → Left
+standTold x left lines = stands (x .done) (x .written) (left (x .head .0)) lines
 
-abbrev pub ranTold : Head → Ran → (Head → Full) → List ℕ → Left
+abbrev pub ranTold : Numbers → Ran → (Numbers → Full) → List ℕ → Left
 ranTold d (ran.Done x) left lines = standTold x left lines
 ranTold d (ran.No k) left lines = record { reply = nay k; after = left d; lines = lines }
 

@@ -6,13 +6,13 @@ use Rattle.laws.specs.Parts.{stretch}
 use Rattle.table.specs.Run.{Reply, ok, nay}
 use Rattle.lines.specs.Line.{lineLong}
 use Rattle.model.specs.Store.{Store}
-use Rattle.sparse_matrix.specs.declared.Head.{Head}
-use Rattle.sparse_matrix.specs.Lent.{storeOf}
+use Rattle.store_head.specs.declared.Numbers.{Numbers}
+use Rattle.store_head.specs.Lent.{storeOf}
 use Rattle.operations.specs.declared.Told.{Told}
 use Rattle.operations.specs.declared.Told.the-variants as told
 
 -- the head and the row map alone, for what looks at no other number
-abbrev pub homesOf : Head → List ℕ → Store
+abbrev pub homesOf : Numbers → List ℕ → Store
 homesOf d homes = storeOf d [] [] homes [] [] [] [] [] [] []
 
 -- the reply, read from the answer buffer and, from place `at` on, from the tail words

@@ -1,10 +1,12 @@
 // The run: a list of operations as script records over a store, a line for each to lent bytes. It checks the store once and keeps it well-formed by proof.
 use sparse_matrix::Head;
+use store_head::Numbers;
+use store_head::refusals;
 ghost use mathlib.Core.Path.{_≡_};
 ghost use Prim.Native.Nat.{_≤_};
 ghost use lib.ListN.{length};
 ghost use Rattle.model.specs.WellFormed.{WellFormed};
-ghost use Rattle.sparse_matrix.specs.Lent.{storeOf, fullOf};
+ghost use Rattle.store_head.specs.Lent.{storeOf, fullOf};
 ghost use Rattle.script.specs.Left.{resumed, standTold, ranTold, runOf, doneIn, writtenIn};
 
 mod measure;
@@ -26,18 +28,15 @@ pub enum Ran {
 
 // What one record leaves: whether its line fits, where the next record starts, how many line bytes are written.
 pub struct Turn {
-    pub head: Head,
+    pub head: Numbers,
     pub at: usize,
     pub used: usize,
     pub went: bool,
 }
 
-// The number of the one refusal that a run gives: 01, "refuses the whole list with 1 if the store is damaged".
-const DAMAGED: u32 = 1;
-
 // The run over a store that is known to be well-formed.
 fn run_on(
-    head: Head,
+    head: Numbers,
     slots: &mut [u16],
     counts: &mut [u16],
     row_homes: &mut [u32],
@@ -85,7 +84,7 @@ fn run_on(
         written = t.used;
         if !went {
             return Stand {
-                head: h,
+                head: Head(h),
                 done: done,
                 written: written,
             };
@@ -111,10 +110,11 @@ pub fn run(
     records: &[u8],
     lines: &mut [u8],
 ) -> Ran
-    ensures { λ x. ⌜ ranTold head x (λ d. fullOf (storeOf d (now (slots .exit)) (now (counts .exit)) (now («row_homes» .exit)) (now («row_logicals» .exit)) (now («column_homes» .exit)) (now («column_logicals» .exit)) (now (marks .exit)) (now (starts .exit)) (now (entries .exit)) (now (words .exit))) (now (answers .exit))) (now (lines .exit)) ≡ runOf (now (records .entry)) (now (lines .entry)) (fullOf (storeOf head (now (slots .entry)) (now (counts .entry)) (now («row_homes» .entry)) (now («row_logicals» .entry)) (now («column_homes» .entry)) (now («column_logicals» .entry)) (now (marks .entry)) (now (starts .entry)) (now (entries .entry)) (now (words .entry))) (now (answers .entry))) ⌝ }
+    ensures { λ x. ⌜ ranTold (head .0) x (λ d. fullOf (storeOf d (now (slots .exit)) (now (counts .exit)) (now («row_homes» .exit)) (now («row_logicals» .exit)) (now («column_homes» .exit)) (now («column_logicals» .exit)) (now (marks .exit)) (now (starts .exit)) (now (entries .exit)) (now (words .exit))) (now (answers .exit))) (now (lines .exit)) ≡ runOf (now (records .entry)) (now (lines .entry)) (fullOf (storeOf (head .0) (now (slots .entry)) (now (counts .entry)) (now («row_homes» .entry)) (now («row_logicals» .entry)) (now («column_homes» .entry)) (now («column_logicals» .entry)) (now (marks .entry)) (now (starts .entry)) (now (entries .entry)) (now (words .entry))) (now (answers .entry))) ⌝ }
     ensures { λ x. ⌜ (doneIn x ≤ length (now (records .entry))) × (writtenIn x ≤ length (now (lines .exit))) ⌝ }
 {
-    if !head.well_formed(
+    if !store_check::well_formed(
+        head.0,
         slots,
         counts,
         row_homes,
@@ -126,10 +126,10 @@ pub fn run(
         entries,
         words,
     ) {
-        return Ran::No(DAMAGED);
+        return Ran::No(refusals::DAMAGED);
     }
     let stand = run_on(
-        head,
+        head.0,
         slots,
         counts,
         row_homes,

@@ -2,9 +2,11 @@
 // whole, that record leaving no trace" (01).
 use operations::refuse;
 use permutation::LogicalRow;
-use sparse_matrix::Head;
-use sparse_matrix::Number;
-use sparse_matrix::places;
+use queries::query;
+use queries::row_tail;
+use store_head::Number;
+use store_head::Numbers;
+use store_head::places;
 use table::ColumnRange;
 use table::Op;
 use table::RowRange;
@@ -15,14 +17,14 @@ ghost use Rattle.table.specs.declared.Op.the-variants.{Iter, TailOnes, ColOnes}
 ghost use Rattle.table.specs.Run.{replyOf};
 ghost use Rattle.model.specs.WellFormed.{WellFormed};
 ghost use Rattle.model.specs.Step.{inner};
-ghost use Rattle.sparse_matrix.specs.Lent.{storeOf, fullOf};
-ghost use Rattle.sparse_matrix.specs.Refused.{refusalOf};
-ghost use Rattle.sparse_matrix.specs.Told.{numberSays};
+ghost use Rattle.store_head.specs.Lent.{storeOf, fullOf};
+ghost use Rattle.store_head.specs.Refused.{refusalOf};
+ghost use Rattle.store_head.specs.Told.{numberSays};
 ghost use Rattle.lines.specs.Line.{lineLong};
 
 // The line of ITER, where nothing refuses it.
 fn iter_line(
-    head: Head,
+    head: Numbers,
     slots: &[u16],
     counts: &[u16],
     row_homes: &[u32],
@@ -47,7 +49,7 @@ fn iter_line(
 
 // The line of TAILONES, where nothing refuses it.
 fn tail_line(
-    head: Head,
+    head: Numbers,
     slots: &[u16],
     counts: &[u16],
     row_homes: &[u32],
@@ -71,7 +73,7 @@ fn tail_line(
 
 // The line of COLONES, where nothing refuses it.
 fn column_line(
-    head: Head,
+    head: Numbers,
     slots: &[u16],
     counts: &[u16],
     row_homes: &[u32],
@@ -106,7 +108,7 @@ fn number_line(x: Number) -> usize
 
 // The line of any operation, refused or not.
 pub fn line_length(
-    head: Head,
+    head: Numbers,
     slots: &[u16],
     counts: &[u16],
     row_homes: &[u32],
@@ -142,7 +144,8 @@ pub fn line_length(
         return lines::no_length(no);
     }
     match op {
-        Op::Get(p) => number_line(head.get_in(
+        Op::Get(p) => number_line(query::get_in(
+            head,
             slots,
             counts,
             row_homes,
@@ -156,7 +159,8 @@ pub fn line_length(
             p.r,
             p.c,
         )),
-        Op::Count(p) => number_line(head.count_ones_in(
+        Op::Count(p) => number_line(query::count_ones_in(
+            head,
             slots,
             counts,
             row_homes,
@@ -171,7 +175,8 @@ pub fn line_length(
             p.a,
             p.b,
         )),
-        Op::Words(p) => lines::words_length(head.sub_row_in(
+        Op::Words(p) => lines::words_length(row_tail::sub_row_in(
+            head,
             slots,
             counts,
             row_homes,

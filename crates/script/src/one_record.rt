@@ -3,7 +3,8 @@ use crate::Turn;
 use crate::measure;
 use crate::tell;
 use records::Read;
-use sparse_matrix::Head;
+use store_head::Numbers;
+use store_head::refusals;
 use table::Op;
 ghost use mathlib.Core.Path.{_≡_};
 ghost use Prim.Native.Nat.{_≤_};
@@ -11,16 +12,11 @@ ghost use lib.ListN.{length};
 ghost use Rattle.table.specs.Refusals.{refused};
 ghost use Rattle.model.specs.WellFormed.{WellFormed};
 ghost use Rattle.model.specs.Step.{step};
-ghost use Rattle.sparse_matrix.specs.Lent.{storeOf, fullOf};
+ghost use Rattle.store_head.specs.Lent.{storeOf, fullOf};
 ghost use Rattle.script.specs.Left.{turnBy, turnOf, turnTold};
 
-// The numbers of the refusals that a record gives by itself: 01, "unknown tag, or wrong length for it", "script ends inside a record".
-const RECORD: u32 = 16;
-
-const CUT: u32 = 17;
-
 // A record that is no operation: the line `no k`, if it fits.
-fn refuse(head: Head, lines: &mut [u8], k: u32, next: usize, at: usize, used: usize) -> Turn
+fn refuse(head: Numbers, lines: &mut [u8], k: u32, next: usize, at: usize, used: usize) -> Turn
     requires { ⌜ used ≤ length (now lines) ⌝ }
     ensures { λ t. ⌜ turnTold t (λ d. d) (now (lines .exit)) ≡ turnBy (refused k) next at used (now (lines .entry)) head ⌝ }
 {
@@ -44,7 +40,7 @@ fn refuse(head: Head, lines: &mut [u8], k: u32, next: usize, at: usize, used: us
 
 // A record that is an operation: its line and its work, if the line fits.
 fn perform(
-    head: Head,
+    head: Numbers,
     slots: &mut [u16],
     counts: &mut [u16],
     row_homes: &mut [u32],
@@ -119,7 +115,7 @@ fn perform(
 
 // The record at a position of the script, whatever stands there.
 pub fn turn_at(
-    head: Head,
+    head: Numbers,
     slots: &mut [u16],
     counts: &mut [u16],
     row_homes: &mut [u32],
@@ -163,8 +159,8 @@ pub fn turn_at(
                 used,
             )
         }
-        Read::Wrong(next) => refuse(head, lines, RECORD, next, at, used),
-        Read::Cut => refuse(head, lines, CUT, records.len(), at, used),
+        Read::Wrong(next) => refuse(head, lines, refusals::RECORD, next, at, used),
+        Read::Cut => refuse(head, lines, refusals::CUT, records.len(), at, used),
         Read::End => Turn {
             head: head,
             at: at,

@@ -1,7 +1,7 @@
 // The line of what one call tells.
 use operations::Told;
-use sparse_matrix::Head;
-use sparse_matrix::places;
+use store_head::Numbers;
+use store_head::places;
 use table::Op;
 ghost use mathlib.Core.Path.{_≡_};
 ghost use Prim.Native.Nat.{_+_, _≤_};
@@ -11,7 +11,7 @@ ghost use Rattle.lines.specs.Line.{lineOf, lineLong};
 ghost use Rattle.script.specs.Said.{said, homesOf, CanPut};
 
 // Where in the lent words the row's part begins, for WORDS; 0 for any other operation.
-pub fn part_at(head: Head, row_homes: &[u32], op: Op) -> usize
+pub fn part_at(head: Numbers, row_homes: &[u32], op: Op) -> usize
     requires { ⌜ head .n ≤ 65535 ⌝ }
     ensures { λ i. ⌜ i ≡ partAt op (homesOf head (now («row_homes» .entry))) ⌝ }
 {

@@ -2,7 +2,7 @@
 use native.Mathlib.Omega.{arith}
 use borrow.Author.Needs.{needs}
 use mathlib.Core.Path.{refl, sym, _∙_}
-use Rattle.sparse_matrix.specs.Lent.{fullOf}
+use Rattle.store_head.specs.Lent.{fullOf}
 use Rattle.operations.proofs.Checks.{may-make, may-well}
 use Rattle.operations.proofs.may_go.Statement.{statement}
 use Rattle.operations.proofs.may_go.Tie as tie

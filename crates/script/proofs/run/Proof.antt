@@ -1,8 +1,8 @@
 -- `script::run` meets its contract. Assumes nothing.
 use Rattle.model.specs.Store.{Full}
-use Rattle.sparse_matrix.specs.Lent.{storeOf, fullOf}
+use Rattle.store_head.specs.Lent.{storeOf, fullOf}
 use Rattle.script.proofs.Turns.{refused-run, whole-run}
-use Rattle.sparse_matrix.proofs.Calls.{sound}
+use Rattle.store_head.proofs.Calls.{sound}
 use borrow.Author.Tests.{not-true, not-false}
 use mathlib.Core.Path.{refl, sym, _∙_}
 use native.Mathlib.Omega.{arith}
@@ -12,7 +12,7 @@ use Rattle.script.proofs.run.Tie as tie
 
 -- what is lent, as it was
 abbrev lent : tie.Start → Full
-lent c = fullOf (storeOf (c .args .head) (c .args .slots .now) (c .args .counts .now) (c .args .row-homes .now) (c .args .row-logicals .now) (c .args .column-homes .now) (c .args .column-logicals .now) (c .args .marks .now) (c .args .starts .now) (c .args .entries .now) (c .args .words .now)) (c .args .answers .now)
+lent c = fullOf (storeOf (c .args .head .0) (c .args .slots .now) (c .args .counts .now) (c .args .row-homes .now) (c .args .row-logicals .now) (c .args .column-homes .now) (c .args .column-logicals .now) (c .args .marks .now) (c .args .starts .now) (c .args .entries .now) (c .args .words .now)) (c .args .answers .now)
 
 well-formed-requires : tie.Need-well-formed-requires
 well-formed-requires c κs = search needs

@@ -1,6 +1,6 @@
 -- `script::run_on` meets its contract. Assumes nothing.
 use Rattle.script.proofs.Turns.{Running, started, further, runs-on, runs-out, bounds}
-use Rattle.sparse_matrix.specs.Lent.{storeOf, fullOf}
+use Rattle.store_head.specs.Lent.{storeOf, fullOf}
 use borrow.Author.Tests.{not-true, not-false}
 use Prim.Native.Nat.{_-_}
 use lib.ListN.{length}

@@ -2,8 +2,8 @@
 use mathlib.Core.Path.{refl, _∙_}
 use native.Mathlib.Omega.{arith}
 use borrow.Author.Needs.{needs}
-use Rattle.sparse_matrix.proofs.Swaps.{rows-by-head, columns-by-head}
-use Rattle.sparse_matrix.proofs.Resizes.{by-head}
+use Rattle.changes.proofs.Swaps.{rows-by-head, columns-by-head}
+use Rattle.reshape.proofs.Resizes.{by-head}
 use Rattle.operations.proofs.Arms.{not-make}
 use Rattle.operations.proofs.Numbers.{as-refused, beside-refused, number-refused, words-refused, off-free, size-free}
 use Rattle.operations.proofs.refuse.refusal.Statement.{statement}

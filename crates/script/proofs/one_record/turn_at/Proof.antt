@@ -1,7 +1,7 @@
 -- `script::one_record::turn_at` meets its contract. Assumes nothing.
 use lib.ListN.{length}
-use Rattle.sparse_matrix.specs.Lent.{storeOf, fullOf}
-use Rattle.sparse_matrix.specs.declared.Head.{Head}
+use Rattle.store_head.specs.Lent.{storeOf, fullOf}
+use Rattle.store_head.specs.declared.Numbers.{Numbers}
 use Rattle.model.specs.Store.{Full}
 use Rattle.script.proofs.Turns.{as-read, no-state}
 use mathlib.Core.Path.{refl}
@@ -10,7 +10,7 @@ use Rattle.script.proofs.one_record.turn_at.Statement.{statement}
 use Rattle.script.proofs.one_record.turn_at.Tie as tie
 
 -- a head over what is lent, as it was
-abbrev lent : tie.Start → Head → Full
+abbrev lent : tie.Start → Numbers → Full
 lent c d = fullOf (storeOf d (c .args .slots .now) (c .args .counts .now) (c .args .row-homes .now) (c .args .row-logicals .now) (c .args .column-homes .now) (c .args .column-logicals .now) (c .args .marks .now) (c .args .starts .now) (c .args .entries .now) (c .args .words .now)) (c .args .answers .now)
 
 read-at-requires : tie.Need-read-at-requires

@@ -1,12 +1,12 @@
--- `operations::changes::change` meets its contract. Assumes nothing.
+-- `operations::change::change` meets its contract. Assumes nothing.
 use mathlib.Core.Path.{refl, ap, _∙_}
 use Rattle.model.specs.Step.{resultOf}
 use native.Mathlib.Omega.{arith}
 use borrow.Author.Needs.{needs}
 use Rattle.operations.proofs.Arms.{not-make, as-done, make-inner}
 use Rattle.operations.proofs.Others.{no-question}
-use Rattle.operations.proofs.changes.change.Statement.{statement}
-use Rattle.operations.proofs.changes.change.Tie as tie
+use Rattle.operations.proofs.change.change.Statement.{statement}
+use Rattle.operations.proofs.change.change.Tie as tie
 
 enum-known-op : tie.Need-enum-known-op
 enum-known-op c = search needs

@@ -1,6 +1,13 @@
 // The nine operations that change the store.
-use sparse_matrix::Changed;
-use sparse_matrix::Head;
+use changes::add;
+use changes::make;
+use changes::set;
+use changes::swap;
+use changes::switch;
+use reshape::freeze;
+use reshape::resize;
+use store_head::Changed;
+use store_head::Numbers;
 use table::Op;
 ghost use mathlib.Core.Path.{_≡_};
 ghost use mathlib.Core.Bool.{true, false};
@@ -8,13 +15,13 @@ ghost use mathlib.Core.List.{[]};
 ghost use Rattle.table.specs.Room.{kind, isMake};
 ghost use Rattle.model.specs.WellFormed.{WellFormed};
 ghost use Rattle.model.specs.Step.{inner, resultOf};
-ghost use Rattle.sparse_matrix.specs.Lent.{storeOf, fullOf};
-ghost use Rattle.sparse_matrix.specs.Told.{changedTold};
+ghost use Rattle.store_head.specs.Lent.{storeOf, fullOf};
+ghost use Rattle.store_head.specs.Told.{changedTold};
 ghost use Rattle.operations.specs.Applied.{asks};
 
 // An operation that changes the store, which is well-formed, or which MAKE is to make.
 pub fn change(
-    head: Head,
+    head: Numbers,
     slots: &mut [u16],
     counts: &mut [u16],
     row_homes: &mut [u32],
@@ -32,7 +39,8 @@ pub fn change(
     ensures { λ x. ⌜ changedTold head x (λ d. storeOf d (now (slots .exit)) (now (counts .exit)) (now («row_homes» .exit)) (now («row_logicals» .exit)) (now («column_homes» .exit)) (now («column_logicals» .exit)) (now (marks .exit)) (now (starts .exit)) (now (entries .exit)) (now (words .exit))) ≡ resultOf (fullOf (storeOf head (now (slots .entry)) (now (counts .entry)) (now («row_homes» .entry)) (now («row_logicals» .entry)) (now («column_homes» .entry)) (now («column_logicals» .entry)) (now (marks .entry)) (now (starts .entry)) (now (entries .entry)) (now (words .entry))) []) (inner op (fullOf (storeOf head (now (slots .entry)) (now (counts .entry)) (now («row_homes» .entry)) (now («row_logicals» .entry)) (now («column_homes» .entry)) (now («column_logicals» .entry)) (now (marks .entry)) (now (starts .entry)) (now (entries .entry)) (now (words .entry))) [])) ⌝ }
 {
     match op {
-        Op::Make(p) => head.new(
+        Op::Make(p) => make::new(
+            head,
             slots,
             counts,
             row_homes,
@@ -48,7 +56,8 @@ pub fn change(
             p.n,
             p.slots,
         ),
-        Op::Set(p) => head.set_in(
+        Op::Set(p) => set::set_in(
+            head,
             slots,
             counts,
             row_homes,
@@ -63,7 +72,8 @@ pub fn change(
             p.c,
             p.v,
         ),
-        Op::SwapR(p) => head.swap_rows_in(
+        Op::SwapR(p) => swap::swap_rows_in(
+            head,
             slots,
             counts,
             row_homes,
@@ -77,7 +87,8 @@ pub fn change(
             p.i,
             p.j,
         ),
-        Op::SwapC(p) => head.swap_columns_in(
+        Op::SwapC(p) => swap::swap_columns_in(
+            head,
             slots,
             counts,
             row_homes,
@@ -91,7 +102,8 @@ pub fn change(
             p.i,
             p.j,
         ),
-        Op::Add(p) => head.add_assign_rows_in(
+        Op::Add(p) => add::add_assign_rows_in(
+            head,
             slots,
             counts,
             row_homes,
@@ -106,7 +118,8 @@ pub fn change(
             p.s,
             p.start,
         ),
-        Op::On => head.enable_column_access_acceleration_in(
+        Op::On => switch::enable_column_access_acceleration_in(
+            head,
             slots,
             counts,
             row_homes,
@@ -118,7 +131,8 @@ pub fn change(
             entries,
             words,
         ),
-        Op::Off => head.disable_column_access_acceleration_in(
+        Op::Off => switch::disable_column_access_acceleration_in(
+            head,
             slots,
             counts,
             row_homes,
@@ -130,7 +144,8 @@ pub fn change(
             entries,
             words,
         ),
-        Op::Freeze(p) => head.hint_column_dense_and_frozen_in(
+        Op::Freeze(p) => freeze::hint_column_dense_and_frozen_in(
+            head,
             slots,
             counts,
             row_homes,
@@ -143,7 +158,8 @@ pub fn change(
             words,
             p.c,
         ),
-        Op::Resize(p) => head.resize_in(
+        Op::Resize(p) => resize::resize_in(
+            head,
             slots,
             counts,
             row_homes,
