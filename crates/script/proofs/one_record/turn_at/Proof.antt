@@ -20,7 +20,7 @@ enum-known-found : tie.Need-enum-known-found
 enum-known-found c = search needs
 
 perform-requires : tie.Need-perform-requires
-perform-requires c κs = ((c .before .before .before .before .before .before .before .before .before .before .before .before .before .before .before .before .before .before .before .before .before .before .before .before .before .before .before .before .before .pre .0), (c .before .before .before .before .before .before .before .before .before .before .before .before .before .before .before .before .before .before .before .before .before .before .before .before .before .before .before .before .before .pre .1))
+perform-requires c κs = let s : tie.Start = c .before .before .before .before .before .before .before .before .before .before .before .before .before .before .before .before .before .before .before .before .before .before .before .before .before .before .before .before .before in ((s .pre .0), (s .pre .1))
 
 enum-known-next : tie.Need-enum-known-next
 enum-known-next c = search needs
@@ -80,13 +80,13 @@ same-length-13 : tie.Need-same-length-13
 same-length-13 c = (c .before .lines2 .given)
 
 returns-2 : tie.Need-returns-2
-returns-2 c = as-read _ _ _ _ _ _ _ (c .before .before .before .before .before .before .before .read-at .ensures .0) _ (c .before .before .before .before .before .next .given .1) (no-state (lent (c .before .before .before .before .before .before .before .before .before .before .before .before .before .before .before .before .before .before .before .before .before)) 16 (c .before .before .before .before .before .next .given .0 .0) (c .before .before .before .before .before .before .before .before .before .before .before .before .before .before .before .before .before .before .before .before .before .args .at) (c .before .before .before .before .before .before .before .before .before .before .before .before .before .before .before .before .before .before .before .before .before .args .used) (c .before .before .before .before .before .before .before .before .before .before .before .before .before .before .before .before .before .before .before .before .before .args .lines .now) (c .before .before .before .before .before .before .before .before .before .before .before .before .before .before .before .before .before .before .before .before .before .args .head) _ (c .before .before .refuse .ensures))
+returns-2 c = let s : tie.Start = c .before .before .before .before .before .before .before .before .before .before .before .before .before .before .before .before .before .before .before .before .before in as-read _ _ _ _ _ _ _ (c .before .before .before .before .before .before .before .read-at .ensures .0) _ (c .before .before .before .before .before .next .given .1) (no-state (lent s) 16 (c .before .before .before .before .before .next .given .0 .0) (s .args .at) (s .args .used) (s .args .lines .now) (s .args .head) _ (c .before .before .refuse .ensures))
 
 same-length-14 : tie.Need-same-length-14
 same-length-14 c = (c .before .lines3 .given)
 
 returns-3 : tie.Need-returns-3
-returns-3 c = as-read _ _ _ _ _ _ _ (c .before .before .before .before .before .before .read-at .ensures .0) _ (c .before .before .before .before .enum-told .given .1) (no-state (lent (c .before .before .before .before .before .before .before .before .before .before .before .before .before .before .before .before .before .before .before .before)) 17 (length (c .before .before .before .before .before .before .before .before .before .before .before .before .before .before .before .before .before .before .before .before .args .records .now)) (c .before .before .before .before .before .before .before .before .before .before .before .before .before .before .before .before .before .before .before .before .args .at) (c .before .before .before .before .before .before .before .before .before .before .before .before .before .before .before .before .before .before .before .before .args .used) (c .before .before .before .before .before .before .before .before .before .before .before .before .before .before .before .before .before .before .before .before .args .lines .now) (c .before .before .before .before .before .before .before .before .before .before .before .before .before .before .before .before .before .before .before .before .args .head) _ (c .before .before .refuse2 .ensures))
+returns-3 c = let s : tie.Start = c .before .before .before .before .before .before .before .before .before .before .before .before .before .before .before .before .before .before .before .before in as-read _ _ _ _ _ _ _ (c .before .before .before .before .before .before .read-at .ensures .0) _ (c .before .before .before .before .enum-told .given .1) (no-state (lent s) 17 (length (s .args .records .now)) (s .args .at) (s .args .used) (s .args .lines .now) (s .args .head) _ (c .before .before .refuse2 .ensures))
 
 returns-4 : tie.Need-returns-4
 returns-4 c = as-read _ _ _ _ _ _ _ (c .before .before .read-at .ensures .0) _ (c .enum-told2 .given .1) refl
