@@ -8,6 +8,8 @@
 
 mod raw;
 
+pub use raw::Head;
+
 /// Why a call is refused, by 01's numbers.
 #[derive(Clone, Copy, Debug, PartialEq, Eq)]
 #[repr(u32)]
@@ -136,9 +138,19 @@ impl<'a> Store<'a> {
         }
     }
 
-    /// Hands the buffers back.
-    pub fn into_buffers(self) -> Buffers<'a> {
-        self.lent
+    /// A store kept apart: a head, and the buffers that it was over. Whatever they hold, each call checks them.
+    pub fn from_parts(head: Head, lent: Buffers<'a>) -> Store<'a> {
+        Store { head, lent }
+    }
+
+    /// Takes the store apart, to be kept or lent anew.
+    pub fn into_parts(self) -> (Head, Buffers<'a>) {
+        (self.head, self.lent)
+    }
+
+    /// The head's numbers as they stand.
+    pub fn head(&self) -> Head {
+        self.head
     }
 
     fn keep(&mut self, x: raw::Changed) -> Result<(), Refusal> {

@@ -1,15 +1,21 @@
 //! The functions of the static library, as they cross the C boundary.
 #![allow(clippy::too_many_arguments)]
 
-/// A head's numbers. All zero is the head of the 0 by 0 store.
+/// A head's numbers: height, width, tail, slots for each row, width at making, and the index switch, 0 or 1. All zero is the head of the 0 by 0 store.
 #[repr(C)]
 #[derive(Clone, Copy, Debug, Default, PartialEq, Eq)]
 pub struct Head {
+    /// Rows.
     pub h: u32,
+    /// Columns.
     pub w: u32,
+    /// The last columns, which are the tail.
     pub n: u32,
+    /// Slots for each row.
     pub slots: u32,
+    /// The width at making.
     pub made: u32,
+    /// The index switch.
     pub on: u32,
 }
 

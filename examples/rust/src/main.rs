@@ -80,9 +80,9 @@ fn main() -> Result<(), Refusal> {
 
     // a refusal is an error, and changes nothing
     println!("row 3 of three: {:?}", store.set(3, 0, true).unwrap_err());
-    let buffers = store.into_buffers();
+    let (head, buffers) = store.into_parts();
     buffers.marks[0] = 9;
-    let mut store = Store::new(buffers);
+    let mut store = Store::from_parts(head, buffers);
     println!("a damaged store: {:?}", store.set(0, 0, true).unwrap_err());
     Ok(())
 }
