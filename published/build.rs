@@ -17,7 +17,8 @@ const MODULES: [&str; 9] = [
 ];
 
 fn main() {
-    let beside = PathBuf::from(env::var("CARGO_MANIFEST_DIR").unwrap()).join("../../shared/docs/src");
+    let beside =
+        PathBuf::from(env::var("CARGO_MANIFEST_DIR").unwrap()).join("../../shared/docs/src");
     let folder = env::var("PUBLISHED").map(PathBuf::from).unwrap_or(beside);
     let folder = fs::canonicalize(&folder).unwrap_or_else(|e| panic!("{}: {e}", folder.display()));
     println!("cargo:rerun-if-env-changed=PUBLISHED");

@@ -50,7 +50,16 @@ pub fn k11(seed: u64) -> List {
         let (d, s) = pair(h, &mut dice);
         timed.push(Op::Add(d, s, 0));
     }
-    List { name: "K11's list", before: vec![], timed, h, w, slots, ones: 8000, tail: 201 }
+    List {
+        name: "K11's list",
+        before: vec![],
+        timed,
+        h,
+        w,
+        slots,
+        ones: 8000,
+        tail: 201,
+    }
 }
 
 /// One kind of operation by itself, over 1,000 by 1,000 with eight ones a row.
@@ -62,40 +71,149 @@ pub fn kinds() -> Vec<List> {
         let mut dice = Dice::new(11);
         let mut before = filled(h, w, n, slots, per_row, &mut dice);
         before.extend(more);
-        lists.push(List { name, before, timed, h, w, slots, ones: (h * per_row) as usize, tail: 256 });
+        lists.push(List {
+            name,
+            before,
+            timed,
+            h,
+            w,
+            slots,
+            ones: (h * per_row) as usize,
+            tail: 256,
+        });
     };
     let many = |count: usize, f: &mut dyn FnMut() -> Vec<Op>| -> Vec<Op> { (0..count).flat_map(|_| f()).collect() };
 
     list("MAKE", 1, 8, slots, &[], vec![Op::Make(h, w, 1, slots); 50]);
-    list("SET, sparse", 1, 8, slots, &[], many(25_000, &mut || {
-        let (r, c) = (dice.below(h), dice.below(w - 1));
-        vec![Op::Set(r, c, 1), Op::Set(r, c, 0)]
-    }));
-    list("SET, tail", 200, 8, slots, &[], many(50_000, &mut || vec![Op::Set(dice.below(h), 800 + dice.below(200), dice.below(2) as u8)]));
-    list("SWAPR", 1, 8, slots, &[], many(50_000, &mut || vec![Op::SwapR(dice.below(h), dice.below(h))]));
-    list("SWAPC", 1, 8, slots, &[], many(50_000, &mut || vec![Op::SwapC(dice.below(w - 1), dice.below(w - 1))]));
-    list("ADD, eight ones", 1, 8, slots, &[], many(25_000, &mut || {
-        let (d, s) = pair(h, &mut dice);
-        vec![Op::Add(d, s, 0), Op::Add(d, s, 0)]
-    }));
-    list("ADD, 400 ones", 1, 500, 1000, &[], many(5_000, &mut || {
-        let (d, s) = pair(h, &mut dice);
-        vec![Op::Add(d, s, 0)]
-    }));
-    list("ADD, tail of 200", 200, 8, slots, &[], many(50_000, &mut || {
-        let (d, s) = pair(h, &mut dice);
-        vec![Op::Add(d, s, 800)]
-    }));
+    list(
+        "SET, sparse",
+        1,
+        8,
+        slots,
+        &[],
+        many(25_000, &mut || {
+            let (r, c) = (dice.below(h), dice.below(w - 1));
+            vec![Op::Set(r, c, 1), Op::Set(r, c, 0)]
+        }),
+    );
+    list(
+        "SET, tail",
+        200,
+        8,
+        slots,
+        &[],
+        many(50_000, &mut || {
+            vec![Op::Set(dice.below(h), 800 + dice.below(200), dice.below(2) as u8)]
+        }),
+    );
+    list(
+        "SWAPR",
+        1,
+        8,
+        slots,
+        &[],
+        many(50_000, &mut || vec![Op::SwapR(dice.below(h), dice.below(h))]),
+    );
+    list(
+        "SWAPC",
+        1,
+        8,
+        slots,
+        &[],
+        many(50_000, &mut || vec![Op::SwapC(dice.below(w - 1), dice.below(w - 1))]),
+    );
+    list(
+        "ADD, eight ones",
+        1,
+        8,
+        slots,
+        &[],
+        many(25_000, &mut || {
+            let (d, s) = pair(h, &mut dice);
+            vec![Op::Add(d, s, 0), Op::Add(d, s, 0)]
+        }),
+    );
+    list(
+        "ADD, 400 ones",
+        1,
+        500,
+        1000,
+        &[],
+        many(5_000, &mut || {
+            let (d, s) = pair(h, &mut dice);
+            vec![Op::Add(d, s, 0)]
+        }),
+    );
+    list(
+        "ADD, tail of 200",
+        200,
+        8,
+        slots,
+        &[],
+        many(50_000, &mut || {
+            let (d, s) = pair(h, &mut dice);
+            vec![Op::Add(d, s, 800)]
+        }),
+    );
     list("ON and OFF", 1, 8, slots, &[], many(50, &mut || vec![Op::On, Op::Off]));
     list("FREEZE", 1, 8, slots, &[Op::On], (0..200).map(|k| Op::Freeze(w - 2 - k)).collect());
     list("RESIZE", 1, 8, slots, &[], vec![Op::Resize(500, 500)]);
-    list("GET, sparse", 1, 8, slots, &[], many(50_000, &mut || vec![Op::Get(dice.below(h), dice.below(w - 1))]));
-    list("GET, tail", 200, 8, slots, &[], many(50_000, &mut || vec![Op::Get(dice.below(h), 800 + dice.below(200))]));
-    list("COUNT", 1, 8, slots, &[], many(50_000, &mut || vec![Op::Count(dice.below(h), 0, w - 1)]));
-    list("ITER", 1, 8, slots, &[], many(50_000, &mut || vec![Op::Iter(dice.below(h), 0, w - 1)]));
-    list("WORDS, tail of 200", 200, 8, slots, &[], many(50_000, &mut || vec![Op::Words(dice.below(h), 800)]));
-    list("TAILONES, tail of 200", 200, 8, slots, &[], many(20_000, &mut || vec![Op::TailOnes(dice.below(h), 800)]));
-    list("COLONES", 1, 8, slots, &[Op::On], many(50_000, &mut || vec![Op::ColOnes(dice.below(w - 1), 0, h)]));
+    list(
+        "GET, sparse",
+        1,
+        8,
+        slots,
+        &[],
+        many(50_000, &mut || vec![Op::Get(dice.below(h), dice.below(w - 1))]),
+    );
+    list(
+        "GET, tail",
+        200,
+        8,
+        slots,
+        &[],
+        many(50_000, &mut || vec![Op::Get(dice.below(h), 800 + dice.below(200))]),
+    );
+    list(
+        "COUNT",
+        1,
+        8,
+        slots,
+        &[],
+        many(50_000, &mut || vec![Op::Count(dice.below(h), 0, w - 1)]),
+    );
+    list(
+        "ITER",
+        1,
+        8,
+        slots,
+        &[],
+        many(50_000, &mut || vec![Op::Iter(dice.below(h), 0, w - 1)]),
+    );
+    list(
+        "WORDS, tail of 200",
+        200,
+        8,
+        slots,
+        &[],
+        many(50_000, &mut || vec![Op::Words(dice.below(h), 800)]),
+    );
+    list(
+        "TAILONES, tail of 200",
+        200,
+        8,
+        slots,
+        &[],
+        many(20_000, &mut || vec![Op::TailOnes(dice.below(h), 800)]),
+    );
+    list(
+        "COLONES",
+        1,
+        8,
+        slots,
+        &[Op::On],
+        many(50_000, &mut || vec![Op::ColOnes(dice.below(w - 1), 0, h)]),
+    );
     list("SIZE", 1, 8, slots, &[], vec![Op::Size; 50_000]);
     lists
 }
@@ -109,7 +227,16 @@ pub fn growth(h: u32) -> Vec<List> {
         let mut dice = Dice::new(3);
         let mut before = filled(h, h, 1, slots, 8, &mut dice);
         before.extend(more);
-        lists.push(List { name, before, timed, h, w: h, slots, ones: 8 * h as usize, tail: 64 });
+        lists.push(List {
+            name,
+            before,
+            timed,
+            h,
+            w: h,
+            slots,
+            ones: 8 * h as usize,
+            tail: 64,
+        });
     };
     let adds = (0..5_000).flat_map(|_| {
         let (d, s) = pair(h, &mut dice);
@@ -120,6 +247,10 @@ pub fn growth(h: u32) -> Vec<List> {
     list("FREEZE", &[Op::On], (0..30).map(|k| Op::Freeze(h - 2 - k)).collect());
     list("RESIZE", &[], vec![Op::Resize(h / 2, h / 2)]);
     let mut dice = Dice::new(9);
-    list("COLONES", &[Op::On], (0..5_000).map(|_| Op::ColOnes(dice.below(h - 1), 0, h)).collect());
+    list(
+        "COLONES",
+        &[Op::On],
+        (0..5_000).map(|_| Op::ColOnes(dice.below(h - 1), 0, h)).collect(),
+    );
     lists
 }

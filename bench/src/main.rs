@@ -12,7 +12,8 @@ use std::hint::black_box;
 use std::time::Instant;
 
 const ROUNDS: usize = 7;
-const HEADING: &str = "| list | operations | our check, once | ours, each | published, each | ratio of the whole |\n|---|---|---|---|---|---|";
+const HEADING: &str =
+    "| list | operations | our check, once | ours, each | published, each | ratio of the whole |\n|---|---|---|---|---|---|";
 
 /// Seconds of our run over the list's records, its one check included.
 fn time_ours(list: &List, records: &[u8], before: &[u8]) -> f64 {
@@ -77,7 +78,15 @@ fn row(list: &List) -> (f64, f64) {
     let n = list.timed.len() as f64;
     let check = checking(list);
     let bare = (x - check).max(0.0) / n;
-    println!("| {} | {} | {} | {} | {} | {:.2} |", list.name, list.timed.len(), told(check), told(bare), told(y / n), r);
+    println!(
+        "| {} | {} | {} | {} | {} | {:.2} |",
+        list.name,
+        list.timed.len(),
+        told(check),
+        told(bare),
+        told(y / n),
+        r
+    );
     (bare, y / n)
 }
 
@@ -126,7 +135,13 @@ fn single_calls() {
         });
         let set = one(|| store.set(h / 2, 3, true).unwrap());
         let add = one(|| store.add(1, 2, 0).unwrap());
-        println!("| {h} | {slots} | {} | {} | {} | {} |", told(check), told(get), told(set), told(add));
+        println!(
+            "| {h} | {slots} | {} | {} | {} | {} |",
+            told(check),
+            told(get),
+            told(set),
+            told(add)
+        );
     }
 }
 
@@ -134,14 +149,27 @@ fn sizes() {
     println!("\n## Bytes\n\n| store | ours, lent | the published, as it says | ratio |\n|---|---|---|---|");
     let k11 = lists::k11(1);
     let (mut rows, mut columns) = (vec![], vec![]);
-    for (what, list, slots) in [("K11 after its list", k11, 1000), ("1,000 by 1,000, eight ones a row, 32 slots", lists::growth(1_000).swap_remove(0), 32), ("10,000 by 10,000, the same", lists::growth(10_000).swap_remove(0), 32)] {
+    for (what, list, slots) in [
+        ("K11 after its list", k11, 1000),
+        (
+            "1,000 by 1,000, eight ones a row, 32 slots",
+            lists::growth(1_000).swap_remove(0),
+            32,
+        ),
+        ("10,000 by 10,000, the same", lists::growth(10_000).swap_remove(0), 32),
+    ] {
         let room = Room::new(list.h, list.w, slots, list.ones, list.tail);
         let mut matrix = theirs::new();
         theirs::run(&mut matrix, &list.before, &mut rows, &mut columns);
         if list.before.is_empty() {
             theirs::run(&mut matrix, &list.timed, &mut rows, &mut columns);
         }
-        println!("| {what} | {} | {} | {:.2} |", room.bytes(), matrix.size_in_bytes(), room.bytes() as f64 / matrix.size_in_bytes() as f64);
+        println!(
+            "| {what} | {} | {} | {:.2} |",
+            room.bytes(),
+            matrix.size_in_bytes(),
+            room.bytes() as f64 / matrix.size_in_bytes() as f64
+        );
     }
 }
 

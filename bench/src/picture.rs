@@ -16,7 +16,13 @@ pub fn growth(points: &[(&'static str, u32, f64, f64)]) -> String {
         writeln!(out, "<line x1=\"{LEFT}\" x2=\"{}\" y1=\"{at:.1}\" y2=\"{at:.1}\" stroke=\"#ddd\"/><text x=\"{}\" y=\"{:.1}\" text-anchor=\"end\">{label}</text>", LEFT + WIDE, LEFT - 8.0, at + 4.0).unwrap();
     }
     for h in [100, 1_000, 10_000] {
-        writeln!(out, "<text x=\"{:.1}\" y=\"{}\" text-anchor=\"middle\">{h} rows</text>", x(h), TOP + HIGH + 20.0).unwrap();
+        writeln!(
+            out,
+            "<text x=\"{:.1}\" y=\"{}\" text-anchor=\"middle\">{h} rows</text>",
+            x(h),
+            TOP + HIGH + 20.0
+        )
+        .unwrap();
     }
     let mut names: Vec<&str> = vec![];
     for (name, ..) in points {
@@ -26,11 +32,26 @@ pub fn growth(points: &[(&'static str, u32, f64, f64)]) -> String {
     }
     for (k, name) in names.iter().enumerate() {
         let line = |pick: fn(&(&'static str, u32, f64, f64)) -> f64| {
-            points.iter().filter(|p| p.0 == *name).map(|p| format!("{:.1},{:.1}", x(p.1), y(pick(p)))).collect::<Vec<_>>().join(" ")
+            points
+                .iter()
+                .filter(|p| p.0 == *name)
+                .map(|p| format!("{:.1},{:.1}", x(p.1), y(pick(p))))
+                .collect::<Vec<_>>()
+                .join(" ")
         };
         let colour = COLOURS[k % COLOURS.len()];
-        writeln!(out, "<polyline points=\"{}\" fill=\"none\" stroke=\"{colour}\" stroke-width=\"2\"/>", line(|p| p.2)).unwrap();
-        writeln!(out, "<polyline points=\"{}\" fill=\"none\" stroke=\"{colour}\" stroke-width=\"2\" stroke-dasharray=\"5 4\"/>", line(|p| p.3)).unwrap();
+        writeln!(
+            out,
+            "<polyline points=\"{}\" fill=\"none\" stroke=\"{colour}\" stroke-width=\"2\"/>",
+            line(|p| p.2)
+        )
+        .unwrap();
+        writeln!(
+            out,
+            "<polyline points=\"{}\" fill=\"none\" stroke=\"{colour}\" stroke-width=\"2\" stroke-dasharray=\"5 4\"/>",
+            line(|p| p.3)
+        )
+        .unwrap();
         let at = TOP + 20.0 + 22.0 * k as f64;
         writeln!(out, "<line x1=\"610\" x2=\"640\" y1=\"{at}\" y2=\"{at}\" stroke=\"{colour}\" stroke-width=\"2\"/><text x=\"648\" y=\"{}\">{name}</text>", at + 4.0).unwrap();
     }

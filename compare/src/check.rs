@@ -30,7 +30,13 @@ fn row(head: &Head, room: &ours::Room, y: usize) -> Vec<u64> {
 }
 
 pub fn well_formed(head: &Head, room: &ours::Room) -> bool {
-    let (h, w, n, slots, made) = (head.h as usize, head.w as usize, head.n as usize, head.slots as usize, head.made as usize);
+    let (h, w, n, slots, made) = (
+        head.h as usize,
+        head.w as usize,
+        head.n as usize,
+        head.slots as usize,
+        head.made as usize,
+    );
     let per_row = n.div_ceil(64);
     // "head numbers keep the limits, buffers are long enough"
     if h > 65_535 || made > 65_535 || w > made || n > w || slots > 65_535 || head.on > 1 {
@@ -69,7 +75,11 @@ pub fn well_formed(head: &Head, room: &ours::Room) -> bool {
             return false;
         }
         let list = row(head, room, y);
-        if !rising(&list) || list.iter().any(|z| *z as usize >= made || column_logicals[*z as usize] as usize >= w - n) {
+        if !rising(&list)
+            || list
+                .iter()
+                .any(|z| *z as usize >= made || column_logicals[*z as usize] as usize >= w - n)
+        {
             return false;
         }
         if room.slots[y * slots + count..(y + 1) * slots].iter().any(|x| *x != 0) {
@@ -87,7 +97,11 @@ pub fn well_formed(head: &Head, room: &ours::Room) -> bool {
     }
     // "row lists stand by home column with no gap between them"
     let starts: Vec<usize> = room.starts.iter().take(made + 1).map(|x| usize::try_from(*x).unwrap()).collect();
-    if starts[0] != 0 || starts.windows(2).any(|two| two[0] > two[1]) || starts[made] > room.entries.len() || !zero_from(&room.entries, starts[made]) {
+    if starts[0] != 0
+        || starts.windows(2).any(|two| two[0] > two[1])
+        || starts[made] > room.entries.len()
+        || !zero_from(&room.entries, starts[made])
+    {
         return false;
     }
     for z in 0..made {
@@ -98,13 +112,45 @@ pub fn well_formed(head: &Head, room: &ours::Room) -> bool {
         }
         // "a sparse column's list holds every home row with a one there, and a sparse column marked exact lists those rows only"
         if (column_logicals[z] as usize) < w - n {
-            let ones: Vec<u64> = (0..h).filter(|y| row(head, room, *y).contains(&(z as u64))).map(|y| y as u64).collect();
+            let ones: Vec<u64> = (0..h)
+                .filter(|y| row(head, room, *y).contains(&(z as u64)))
+                .map(|y| y as u64)
+                .collect();
             if ones.iter().any(|y| !list.contains(y)) || (room.marks[z] == 0 && list != ones) {
                 return false;
             }
         }
     }
     true
+}
+
+/// What is lent, as the table counts it.
+pub fn room_of(room: &ours::Room, answers: usize) -> Room {
+    Room {
+        slots: room.slots.len(),
+        rows: room.counts.len().min(room.row_homes.len()).min(room.row_logicals.len()),
+        columns: room.column_homes.len().min(room.column_logicals.len()).min(room.marks.len()),
+        starts: room.starts.len(),
+        entries: room.entries.len(),
+        words: room.words.len(),
+        answers,
+    }
+}
+
+/// Buffers of that room, all zero.
+pub fn lend(room: &Room) -> ours::Room {
+    ours::Room {
+        slots: vec![0; room.slots],
+        counts: vec![0; room.rows],
+        row_homes: vec![0; room.rows],
+        row_logicals: vec![0; room.rows],
+        column_homes: vec![0; room.columns],
+        column_logicals: vec![0; room.columns],
+        marks: vec![0; room.columns],
+        starts: vec![0; room.starts],
+        entries: vec![0; room.entries],
+        words: vec![0; room.words],
+    }
 }
 
 /// The table that a well-formed store stands for, with the room that it is lent.
@@ -123,15 +169,7 @@ pub fn table_of(head: &Head, room: &ours::Room, answers: usize) -> Table {
         }
     }
     Table {
-        room: Room {
-            slots: room.slots.len(),
-            rows: room.counts.len().min(room.row_homes.len()).min(room.row_logicals.len()),
-            columns: room.column_homes.len().min(room.column_logicals.len()).min(room.marks.len()),
-            starts: room.starts.len(),
-            entries: room.entries.len(),
-            words: room.words.len(),
-            answers,
-        },
+        room: room_of(room, answers),
         h: head.h,
         w: head.w,
         n: head.n,

@@ -16,7 +16,9 @@ pub fn listed(t: &Table, op: Op, flagged: &[bool]) -> Option<&'static str> {
                 None
             }
         }
-        Op::Freeze(c) | Op::ColOnes(c, ..) if t.homes[c as usize] >= t.h => Some("FREEZE or COLONES of a home column at or past the height"),
+        Op::Freeze(c) | Op::ColOnes(c, ..) if t.homes[c as usize] >= t.h => {
+            Some("FREEZE or COLONES of a home column at or past the height")
+        }
         Op::Freeze(_) if t.n == 0 => Some("FREEZE from n = 0"),
         Op::Freeze(_) if t.h == 0 => Some("FREEZE with no row"),
         Op::ColOnes(c, ..) if cfg!(debug_assertions) && flagged[c as usize] => Some("COLONES of a column once spent, in debug"),

@@ -93,7 +93,11 @@ pub fn solver(t: &Table, step: u32, dice: &mut Dice) -> Vec<Op> {
         }
         let rows: Vec<u32> = (0..h).filter(|r| t.ones(*r).len() == 1).collect();
         if rows.is_empty() || step > 60 || edge == 0 {
-            return if step > 60 || edge == 0 { vec![Op::Off] } else { vec![Op::Freeze(edge - 1)] };
+            return if step > 60 || edge == 0 {
+                vec![Op::Off]
+            } else {
+                vec![Op::Freeze(edge - 1)]
+            };
         }
         let r = rows[dice.below(rows.len() as u32) as usize];
         let c = t.ones(r)[0];

@@ -54,12 +54,30 @@ fn words_for(n: u32) -> usize {
 }
 
 /// What the script program lends.
-pub const PROGRAM: Room = Room { slots: 8192, rows: 256, columns: 256, starts: 257, entries: 4096, words: 1024, answers: 256 };
+pub const PROGRAM: Room = Room {
+    slots: 8192,
+    rows: 256,
+    columns: 256,
+    starts: 257,
+    entries: 4096,
+    words: 1024,
+    answers: 256,
+};
 
 impl Table {
     /// "a 0 by 0 store"
     pub fn new(room: Room) -> Table {
-        Table { room, h: 0, w: 0, n: 0, slots: 0, on: false, bits: vec![], spent: vec![], homes: vec![] }
+        Table {
+            room,
+            h: 0,
+            w: 0,
+            n: 0,
+            slots: 0,
+            on: false,
+            bits: vec![],
+            spent: vec![],
+            homes: vec![],
+        }
     }
 
     /// "the last n are the tail, the w-n before it are sparse"
@@ -212,7 +230,12 @@ impl Table {
             Op::TailOnes(r, a) => {
                 refuse(4, r >= self.h)?;
                 refuse(6, a != self.edge() || self.n == 0)?;
-                self.listed((self.edge()..self.w).filter(|c| self.bits[r as usize][*c as usize]).map(u64::from).collect())
+                self.listed(
+                    (self.edge()..self.w)
+                        .filter(|c| self.bits[r as usize][*c as usize])
+                        .map(u64::from)
+                        .collect(),
+                )
             }
             Op::Iter(r, a, b) => {
                 refuse(4, r >= self.h)?;
@@ -226,7 +249,12 @@ impl Table {
                 refuse(6, c >= self.edge())?;
                 refuse(9, !self.on)?;
                 refuse(11, self.spent[c as usize])?;
-                self.listed((a..b.min(self.h)).filter(|r| self.bits[*r as usize][c as usize]).map(u64::from).collect())
+                self.listed(
+                    (a..b.min(self.h))
+                        .filter(|r| self.bits[*r as usize][c as usize])
+                        .map(u64::from)
+                        .collect(),
+                )
             }
             Op::Size => Ok(vec![self.h as u64, self.w as u64, self.n as u64]),
         }

@@ -59,7 +59,11 @@ pub fn new() -> SparseBinaryMatrix {
 /// COLONES as the published matrix orders it.
 pub fn column_rows(matrix: &SparseBinaryMatrix, c: u32, a: u32, b: u32) -> Vec<u64> {
     let end = (b as usize).min(matrix.height());
-    matrix.get_ones_in_column(c as usize, a as usize, end).iter().map(|x| *x as u64).collect()
+    matrix
+        .get_ones_in_column(c as usize, a as usize, end)
+        .iter()
+        .map(|x| *x as u64)
+        .collect()
 }
 
 /// One operation: what the published matrix answers. COLONES' end is cut to the height, since the published one first reserves that many places; its list
@@ -75,7 +79,11 @@ pub fn call(matrix: &mut SparseBinaryMatrix, op: Op) -> Vec<u64> {
             fused_addassign_mul_scalar_binary(&mut bits, &words, &Octet::one());
             bits.iter().map(|x| *x as u64).collect()
         }
-        Op::TailOnes(r, a) => matrix.query_non_zero_columns(r as usize, a as usize).iter().map(|x| *x as u64).collect(),
+        Op::TailOnes(r, a) => matrix
+            .query_non_zero_columns(r as usize, a as usize)
+            .iter()
+            .map(|x| *x as u64)
+            .collect(),
         Op::Iter(r, a, b) => matrix
             .get_row_iter(r as usize, a as usize, b as usize)
             .filter(|(_, value)| *value == Octet::one())

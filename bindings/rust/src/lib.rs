@@ -483,11 +483,7 @@ impl<'a> Store<'a> {
             )
         };
         Refusal::of(x.no)?;
-        Ok(Size {
-            h: x.h,
-            w: x.w,
-            n: x.n,
-        })
+        Ok(Size { h: x.h, w: x.w, n: x.n })
     }
 
     /// GET: the bit in row r and column c.
@@ -560,13 +556,7 @@ impl<'a> Store<'a> {
     }
 
     /// ITER: the columns a to b-1 that hold one in row r, by rising home number.
-    pub fn iter<'b>(
-        &self,
-        answers: &'b mut [u32],
-        r: u32,
-        a: u32,
-        b: u32,
-    ) -> Result<&'b [u32], Refusal> {
+    pub fn iter<'b>(&self, answers: &'b mut [u32], r: u32, a: u32, b: u32) -> Result<&'b [u32], Refusal> {
         // SAFETY: each pointer and length is a slice; only the answers are written, and they are borrowed alone.
         let x = unsafe {
             raw::clatterthaw_iter(
@@ -603,12 +593,7 @@ impl<'a> Store<'a> {
     }
 
     /// TAILONES: the tail columns that hold one in row r; a is the first tail column.
-    pub fn tail_ones<'b>(
-        &self,
-        answers: &'b mut [u32],
-        r: u32,
-        a: u32,
-    ) -> Result<&'b [u32], Refusal> {
+    pub fn tail_ones<'b>(&self, answers: &'b mut [u32], r: u32, a: u32) -> Result<&'b [u32], Refusal> {
         // SAFETY: each pointer and length is a slice; only the answers are written, and they are borrowed alone.
         let x = unsafe {
             raw::clatterthaw_tail_ones(
@@ -644,13 +629,7 @@ impl<'a> Store<'a> {
     }
 
     /// COLONES: the rows a to b-1 that hold one in column c.
-    pub fn column_ones<'b>(
-        &self,
-        answers: &'b mut [u32],
-        c: u32,
-        a: u32,
-        b: u32,
-    ) -> Result<&'b [u32], Refusal> {
+    pub fn column_ones<'b>(&self, answers: &'b mut [u32], c: u32, a: u32, b: u32) -> Result<&'b [u32], Refusal> {
         // SAFETY: each pointer and length is a slice; only the answers are written, and they are borrowed alone.
         let x = unsafe {
             raw::clatterthaw_column_ones(
@@ -722,12 +701,7 @@ impl<'a> Store<'a> {
 
     /// Script records over the store, a line for each into `lines`. The store is checked once. The run stops before the first record whose line would not fit
     /// whole: call it again with the records after `done`.
-    pub fn run(
-        &mut self,
-        answers: &mut [u32],
-        records: &[u8],
-        lines: &mut [u8],
-    ) -> Result<Ran, Refusal> {
+    pub fn run(&mut self, answers: &mut [u32], records: &[u8], lines: &mut [u8]) -> Result<Ran, Refusal> {
         // SAFETY: each pointer and length is a slice that is borrowed alone, but for the records, which are only read.
         let x = unsafe {
             raw::clatterthaw_run(

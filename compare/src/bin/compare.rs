@@ -4,6 +4,7 @@
 //!
 //! Ours is held to the table in every answer and every refusal, at ample room and at room that is short by a little. The published matrix is fed what ours
 //! accepts, until it stops where docs/DIFFERENCES.md says that it does; and, on a copy, what ours refuses with 4 to 11, which is only counted.
+use compare::check::lend;
 use compare::differences::{in_domain, listed};
 use compare::lists::{self, Style};
 use compare::table::{Answer, Room, Table};
@@ -31,7 +32,9 @@ fn as_theirs(t: &Table, op: Op, answer: &[u64]) -> Vec<u64> {
     match op {
         Op::Words(..) => {
             let padding = (64 - t.n as usize % 64) % 64;
-            (0..t.n as usize).map(|d| answer[(padding + d) / 64] >> ((padding + d) % 64) & 1).collect()
+            (0..t.n as usize)
+                .map(|d| answer[(padding + d) / 64] >> ((padding + d) % 64) & 1)
+                .collect()
         }
         Op::Size => answer[..2].to_vec(),
         _ => answer.to_vec(),
@@ -57,21 +60,9 @@ fn fail(case: &Case, what: &str) -> ! {
 
 impl Case {
     fn new(room: Room) -> Case {
-        let lent = ours::Room {
-            slots: vec![0; room.slots],
-            counts: vec![0; room.rows],
-            row_homes: vec![0; room.rows],
-            row_logicals: vec![0; room.rows],
-            column_homes: vec![0; room.columns],
-            column_logicals: vec![0; room.columns],
-            marks: vec![0; room.columns],
-            starts: vec![0; room.starts],
-            entries: vec![0; room.entries],
-            words: vec![0; room.words],
-        };
         Case {
             table: Table::new(room),
-            room: lent,
+            room: lend(&room),
             answers: vec![0; room.answers],
             matrix: Some(theirs::new()),
             flagged: vec![],
@@ -125,7 +116,10 @@ impl Case {
         match told {
             Err(_) => match listed {
                 Some(why) => *tally.stopped.entry(why).or_default() += 1,
-                None => fail(self, &format!("{op:?}: the published matrix stops, and docs/DIFFERENCES.md does not say so")),
+                None => fail(
+                    self,
+                    &format!("{op:?}: the published matrix stops, and docs/DIFFERENCES.md does not say so"),
+                ),
             },
             Ok((matrix, told)) => {
                 self.matrix = Some(matrix);
@@ -205,15 +199,29 @@ fn one_case(k: u64, tally: &mut Tally) {
         _ => w,
     };
     let words = h as usize * ((n as usize + dice.below(3) as usize * 64).div_ceil(64).max(1));
-    let short = |x: usize, dice: &mut Dice| if dice.below(6) == 0 { x - x.min(1) } else { x + dice.below(3) as usize };
+    let short = |x: usize, dice: &mut Dice| {
+        if dice.below(6) == 0 {
+            x - x.min(1)
+        } else {
+            x + dice.below(3) as usize
+        }
+    };
     let room = Room {
         slots: short(h as usize * slots as usize, &mut dice),
         rows: h as usize + dice.below(2) as usize,
         columns: w as usize + dice.below(2) as usize,
         starts: w as usize + 1 + dice.below(2) as usize,
-        entries: if dice.below(4) == 0 { dice.below(8) as usize } else { h as usize * w as usize },
+        entries: if dice.below(4) == 0 {
+            dice.below(8) as usize
+        } else {
+            h as usize * w as usize
+        },
         words: short(words, &mut dice),
-        answers: if dice.below(4) == 0 { dice.below(4) as usize } else { (h.max(w)) as usize },
+        answers: if dice.below(4) == 0 {
+            dice.below(4) as usize
+        } else {
+            (h.max(w)) as usize
+        },
     };
     let filling = 1 + 2 * h;
     let next = |t: &Table, step: u32, dice: &mut Dice| match step {
@@ -227,7 +235,17 @@ fn one_case(k: u64, tally: &mut Tally) {
 
 /// Shapes at the limits: few steps, since every call looks at the whole store.
 fn large(tally: &mut Tally) {
-    for (k, (h, w, n, slots)) in [(65_535, 3, 1, 2), (2, 65_535, 1, 3), (65_535, 70, 64, 2), (3, 65_535, 65_535, 0), (300, 65_535, 2, 4), (65_535, 1, 0, 1)].into_iter().enumerate() {
+    for (k, (h, w, n, slots)) in [
+        (65_535, 3, 1, 2),
+        (2, 65_535, 1, 3),
+        (65_535, 70, 64, 2),
+        (3, 65_535, 65_535, 0),
+        (300, 65_535, 2, 4),
+        (65_535, 1, 0, 1),
+    ]
+    .into_iter()
+    .enumerate()
+    {
         let mut dice = Dice::new(900 + k as u64);
         let room = Room {
             slots: h as usize * slots as usize,
@@ -240,7 +258,11 @@ fn large(tally: &mut Tally) {
         };
         let next = |t: &Table, step: u32, dice: &mut Dice| match step {
             0 => vec![Op::Make(h, w, n, slots)],
-            1..=60 => vec![Op::Set(dice.below(h), if step % 2 == 0 { dice.below(w) } else { dice.below(3.min(w)) }, 1)],
+            1..=60 => vec![Op::Set(
+                dice.below(h),
+                if step % 2 == 0 { dice.below(w) } else { dice.below(3.min(w)) },
+                1,
+            )],
             _ => vec![lists::any(t, dice)],
         };
         Case::new(room).all(next, 140, &mut dice, tally);
@@ -261,7 +283,12 @@ fn main() {
     large(&mut tally);
     let build = if cfg!(debug_assertions) { "debug" } else { "release" };
     println!("{cases} cases and 6 large ones, the published matrix in {build}: no difference");
-    println!("{} operations, {} accepted; refused {}", tally.operations, tally.accepted, counts(&tally.refused));
+    println!(
+        "{} operations, {} accepted; refused {}",
+        tally.operations,
+        tally.accepted,
+        counts(&tally.refused)
+    );
     println!("held against the published: {}; cells {}", counts(&tally.compared), tally.cells);
     println!("it stopped where docs/DIFFERENCES.md says so: {}", counts(&tally.stopped));
     println!("what ours refuses with 4 to 11, on a copy of it (stops, goes on):");

@@ -4,9 +4,9 @@
 //!
 //!     compare/damage [STORES]
 use clatterthaw::{Head, Store};
-use compare::check::{table_of, well_formed};
+use compare::check::{room_of, table_of, well_formed};
 use compare::lists;
-use compare::table::{Answer, Room, Table};
+use compare::table::{Answer, Table};
 use drive::ops::{records, Dice, Op};
 use drive::ours;
 use std::collections::BTreeMap;
@@ -107,7 +107,7 @@ fn try_all(head: Head, room: &ours::Room, tally: &mut Tally) {
     tally.damaged += !whole as u64;
     for op in operations(&head) {
         let meant: Answer = match (&table, op) {
-            (None, Op::Make(..)) => Table::new(lent(room)).call(op),
+            (None, Op::Make(..)) => Table::new(room_of(room, ANSWERS)).call(op),
             (None, _) => Err(1),
             (Some(table), _) => table.clone().call(op),
         };
@@ -140,23 +140,13 @@ fn try_all(head: Head, room: &ours::Room, tally: &mut Tally) {
     }
 }
 
-/// The room as the table has it.
-fn lent(room: &ours::Room) -> Room {
-    Room {
-        slots: room.slots.len(),
-        rows: room.counts.len().min(room.row_homes.len()).min(room.row_logicals.len()),
-        columns: room.column_homes.len().min(room.column_logicals.len()).min(room.marks.len()),
-        starts: room.starts.len(),
-        entries: room.entries.len(),
-        words: room.words.len(),
-        answers: ANSWERS,
-    }
-}
-
 /// An ADD that cancels a one while the index is on, if there is one to cancel.
 fn spending(t: &Table) -> Option<Op> {
     let singles = (0..t.h).filter(|s| t.ones(*s).len() == 1);
-    singles.flat_map(|s| (0..t.h).map(move |d| (d, s))).find(|(d, s)| d != s && t.bits[*d as usize][t.ones(*s)[0] as usize]).map(|(d, s)| Op::Add(d, s, 0))
+    singles
+        .flat_map(|s| (0..t.h).map(move |d| (d, s)))
+        .find(|(d, s)| d != s && t.bits[*d as usize][t.ones(*s)[0] as usize])
+        .map(|(d, s)| Op::Add(d, s, 0))
 }
 
 /// A store after a random list, and which kind of store it is.
@@ -165,8 +155,14 @@ fn store_of(k: u64) -> (Head, ours::Room, &'static str) {
     let (h, w) = (2 + dice.below(3), 2 + dice.below(4));
     let n = dice.below(w);
     let slots = 1 + dice.below(3);
-    let mut room = ours::Room::new(h + dice.below(2), w + dice.below(2), slots, (h * slots) as usize, n + 1 + dice.below(2) * 64);
-    let mut table = Table::new(lent(&room));
+    let mut room = ours::Room::new(
+        h + dice.below(2),
+        w + dice.below(2),
+        slots,
+        (h * slots) as usize,
+        n + 1 + dice.below(2) * 64,
+    );
+    let mut table = Table::new(room_of(&room, ANSWERS));
     let (mut spent, mut shrunk, mut frozen) = (false, false, false);
     let head = {
         let mut store = room.store();
@@ -214,8 +210,19 @@ fn main() {
         each_buffer(&room, |_, other| try_all(head, &other, &mut tally));
     }
     let counts = |map: &BTreeMap<u32, u64>| map.iter().map(|(k, n)| format!("{k}: {n}")).collect::<Vec<_>>().join(", ");
-    println!("{stores} stores: {}", tally.stores.iter().map(|(k, n)| format!("{n} {k}")).collect::<Vec<_>>().join("; "));
-    println!("{} stores tried with each number damaged in turn, {} of them not well-formed by the plain check", tally.variants, tally.damaged);
-    println!("{} calls: {} accepted; refused {}", tally.calls, tally.accepted, counts(&tally.refused));
+    println!(
+        "{stores} stores: {}",
+        tally.stores.iter().map(|(k, n)| format!("{n} {k}")).collect::<Vec<_>>().join("; ")
+    );
+    println!(
+        "{} stores tried with each number damaged in turn, {} of them not well-formed by the plain check",
+        tally.variants, tally.damaged
+    );
+    println!(
+        "{} calls: {} accepted; refused {}",
+        tally.calls,
+        tally.accepted,
+        counts(&tally.refused)
+    );
     println!("1 exactly where the plain check says so, else the table's answer; no refusal changed a number");
 }

@@ -7,19 +7,46 @@ use std::panic::{catch_unwind, AssertUnwindSafe};
 const SCRIPTS: [(&str, &str); 15] = [
     ("ON without a one", "MAKE 2 2 0 2; ON"),
     ("ON, a one in a home column at or past the height", "MAKE 1 2 0 2; SET 0 1 1; ON"),
-    ("FREEZE of a home column at or past the height", "MAKE 1 3 1 2; SET 0 0 1; ON; FREEZE 1"),
-    ("COLONES of a home column at or past the height", "MAKE 1 3 1 2; SET 0 0 1; ON; COLONES 1 0 1"),
+    (
+        "FREEZE of a home column at or past the height",
+        "MAKE 1 3 1 2; SET 0 0 1; ON; FREEZE 1",
+    ),
+    (
+        "COLONES of a home column at or past the height",
+        "MAKE 1 3 1 2; SET 0 0 1; ON; COLONES 1 0 1",
+    ),
     ("the first FREEZE from n = 0", "MAKE 2 2 0 2; SET 0 0 1; ON; FREEZE 1"),
-    ("SWAPC with its first column in the tail", "MAKE 1 2 1 2; SET 0 0 1; SWAPC 1 0; GET 0 0"),
+    (
+        "SWAPC with its first column in the tail",
+        "MAKE 1 2 1 2; SET 0 0 1; SWAPC 1 0; GET 0 0",
+    ),
     ("RESIZE to a larger width", "MAKE 1 1 0 1; RESIZE 1 2"),
     ("GET past the width after a shrink", "MAKE 1 3 0 3; SET 0 0 1; RESIZE 1 1; GET 0 2"),
-    ("SWAPC past the width after a shrink", "MAKE 2 3 0 3; SET 0 0 1; RESIZE 2 2; SWAPC 2 0"),
-    ("COLONES past the width after a shrink", "MAKE 3 3 0 3; SET 0 0 1; RESIZE 3 2; ON; COLONES 2 0 3"),
-    ("COLONES of a spent column", "MAKE 2 2 0 2; SET 0 0 1; SET 1 0 1; ON; ADD 0 1 0; COLONES 0 0 2"),
-    ("COLONES of a column spent before ON", "MAKE 2 2 0 2; SET 0 0 1; SET 1 0 1; ON; ADD 0 1 0; ON; COLONES 0 0 2"),
-    ("COLONES of a tail column", "MAKE 3 3 1 3; SET 0 1 1; ON; FREEZE 1; SET 0 1 0; COLONES 1 0 3"),
+    (
+        "SWAPC past the width after a shrink",
+        "MAKE 2 3 0 3; SET 0 0 1; RESIZE 2 2; SWAPC 2 0",
+    ),
+    (
+        "COLONES past the width after a shrink",
+        "MAKE 3 3 0 3; SET 0 0 1; RESIZE 3 2; ON; COLONES 2 0 3",
+    ),
+    (
+        "COLONES of a spent column",
+        "MAKE 2 2 0 2; SET 0 0 1; SET 1 0 1; ON; ADD 0 1 0; COLONES 0 0 2",
+    ),
+    (
+        "COLONES of a column spent before ON",
+        "MAKE 2 2 0 2; SET 0 0 1; SET 1 0 1; ON; ADD 0 1 0; ON; COLONES 0 0 2",
+    ),
+    (
+        "COLONES of a tail column",
+        "MAKE 3 3 1 3; SET 0 1 1; ON; FREEZE 1; SET 0 1 0; COLONES 1 0 3",
+    ),
     ("ITER from 65,536", "MAKE 1 1 0 1; SET 0 0 1; ITER 0 65536 1"),
-    ("COLONES by rows that were exchanged", "MAKE 2 2 0 2; SET 0 0 1; SET 1 0 1; SWAPR 0 1; ON; COLONES 0 0 2"),
+    (
+        "COLONES by rows that were exchanged",
+        "MAKE 2 2 0 2; SET 0 0 1; SET 1 0 1; SWAPR 0 1; ON; COLONES 0 0 2",
+    ),
 ];
 
 fn op(text: &str) -> Op {

@@ -1,10 +1,10 @@
 //! A long run: records in pieces of any length over the script program's room, every line held to the plain table's, byte for byte.
 //!
 //!     compare/load [RECORDS]
+use compare::check::lend;
 use compare::lists;
 use compare::table::{line, Table, PROGRAM};
 use drive::ops::{records, Dice, Op};
-use drive::ours;
 
 /// What the process holds, in KiB; 0 where the system does not say.
 fn held() -> u64 {
@@ -14,19 +14,10 @@ fn held() -> u64 {
 }
 
 fn main() {
-    let all: u64 = std::env::args().nth(1).map_or(10_000_000, |word| word.parse().expect("how many records"));
-    let mut room = ours::Room {
-        slots: vec![0; PROGRAM.slots],
-        counts: vec![0; PROGRAM.rows],
-        row_homes: vec![0; PROGRAM.rows],
-        row_logicals: vec![0; PROGRAM.rows],
-        column_homes: vec![0; PROGRAM.columns],
-        column_logicals: vec![0; PROGRAM.columns],
-        marks: vec![0; PROGRAM.columns],
-        starts: vec![0; PROGRAM.starts],
-        entries: vec![0; PROGRAM.entries],
-        words: vec![0; PROGRAM.words],
-    };
+    let all: u64 = std::env::args()
+        .nth(1)
+        .map_or(10_000_000, |word| word.parse().expect("how many records"));
+    let mut room = lend(&PROGRAM);
     let mut store = room.store();
     let mut table = Table::new(PROGRAM);
     let mut dice = Dice::new(1);
@@ -52,7 +43,9 @@ fn main() {
         let (mut at, mut said) = (0, Vec::new());
         while at < script.len() {
             let room = 64 + dice.below(4000) as usize;
-            let ran = store.run(&mut answers, &script[at..], &mut lines[..room.max(2600)]).expect("a well-formed store");
+            let ran = store
+                .run(&mut answers, &script[at..], &mut lines[..room.max(2600)])
+                .expect("a well-formed store");
             assert!(ran.done > 0, "no line fits");
             said.extend(&lines[..ran.written]);
             at += ran.done;
@@ -69,5 +62,8 @@ fn main() {
             early = held();
         }
     }
-    println!("{done} records in {runs} runs, {bytes} line bytes, each as the table's; held {early} KiB after 100,000 records, {} KiB at the end", held());
+    println!(
+        "{done} records in {runs} runs, {bytes} line bytes, each as the table's; held {early} KiB after 100,000 records, {} KiB at the end",
+        held()
+    );
 }

@@ -25,9 +25,17 @@ fn main() {
     let (mut script, mut lines) = (vec![], String::new());
     for k in 0..40 {
         let mut dice = Dice::new(5000 + k);
-        let (h, w) = if k % 8 == 7 { (100, 90) } else { (4 + dice.below(16), 2 + dice.below(14)) };
+        let (h, w) = if k % 8 == 7 {
+            (100, 90)
+        } else {
+            (4 + dice.below(16), 2 + dice.below(14))
+        };
         let n = if k % 8 == 6 { w.min(1 + dice.below(3)) } else { 1 + dice.below(2) };
-        let (h, w, n) = if k % 8 == 5 { (6, 70 + n, 62 + dice.below(4)) } else { (h, w, n.min(w)) };
+        let (h, w, n) = if k % 8 == 5 {
+            (6, 70 + n, 62 + dice.below(4))
+        } else {
+            (h, w, n.min(w))
+        };
         let mut table = Table::new(PROGRAM);
         let mut matrix = theirs::new();
         let mut flagged = vec![false; w as usize];
