@@ -1,18 +1,12 @@
 -- What the contracts of the changing methods say beside the model's words: the places of an operation, MAKE's checks of its numbers. Assumes nothing.
 use mathlib.Core.Bool.{Bool, false, _||_}
-use mathlib.Core.List.{List}
-use Prim.Native.Nat.{ℕ, _*_, _≤_, _<_}
+use Prim.Native.Nat.{ℕ}
 use lib.Dec.{ltb}
-use lib.ListN.{length, getD}
-use Rattle.laws.specs.Parts.{part}
-use Rattle.sparse_vec.specs.Row.{HasRow}
-use Rattle.table.specs.declared.SetCell.{SetCell}
 use Rattle.table.specs.declared.Sizes.{Sizes}
 use Rattle.table.specs.declared.Two.{Two}
 use Rattle.table.specs.Step.{heightLimit, widthLimit, slotLimit}
 use Rattle.table.specs.Room.{Lent}
 use Rattle.model.specs.Store as model
-use Rattle.model.specs.Change.{setRow}
 use Rattle.changes.specs.declared.make.Lengths.{Lengths}
 
 -- "a 0 by 0 store"
@@ -22,10 +16,6 @@ emptyHead = record { h = 0; w = 0; n = 0; slots = 0; made = 0; on = false }
 -- MAKE's places
 abbrev pub sizes : (h w n slots : ℕ) → Sizes
 sizes h w n slots = record { h = h; w = w; n = n; slots = slots }
-
--- SET's
-abbrev pub place : (r c v : ℕ) → SetCell
-place r c v = record { r = r; c = c; v = v }
 
 -- SWAPR's and SWAPC's
 abbrev pub two : ℕ → ℕ → Two
@@ -51,14 +41,3 @@ lentBy m =
       words = m .words;
       answers = 0;
     }
-
--- home row y stands in its k places, and has its count
-pub record RowKept (slots counts : List ℕ) (y k : ℕ) : Type 0 where
-  pub counted : y < length counts
-  pub low : k ≤ slotLimit
-  pub row : HasRow slots (y * k) (getD counts y 0) k
-
--- z can be put into the list at a place, or taken out of it
-pub record CanSet (slots : List ℕ) (at len k z : ℕ) (v : Bool) : Type 0 where
-  pub row : HasRow slots at len k
-  pub room : length (setRow v z (part slots at len)) ≤ k

@@ -1,6 +1,4 @@
-// The operations that make a store or change its cells, its maps and its index, on a store that is known to be well-formed (MAKE: on any).
-pub mod add;
+// MAKE, on any store, and the operations that change maps and the index, on a store that is known to be well-formed: SWAPR, SWAPC, ON, OFF.
 pub mod make;
-pub mod set;
 pub mod swap;
 pub mod switch;

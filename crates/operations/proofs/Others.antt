@@ -9,7 +9,7 @@ use Rattle.table.proofs.Op.{the-type}
 use Rattle.table.specs.declared.Op.{Op}
 use Rattle.table.specs.declared.Op.the-variants.{Make, Set, SwapR, SwapC, Add, On, Off, Freeze, Resize, Get, Count, Words, TailOnes, Iter, ColOnes, Size}
 use Rattle.table.specs.Room.{kind, isMake, listed}
-use Rattle.operations.specs.Applied.{asks, done, form}
+use Rattle.operations.specs.Applied.{asks, inPlace, done, form}
 
 -- the places of the kinds in the enum
 abbrev pub changing : List ℕ
@@ -152,3 +152,64 @@ change-form (TailOnes p) t = absurd (true≢false t)
 change-form (Iter p) t = absurd (true≢false t)
 change-form (ColOnes p) t = absurd (true≢false t)
 change-form Size t = absurd (true≢false t)
+
+-- ---- the five that leave the index's lists
+abbrev pub moving : List ℕ
+moving = 0 ∷ 5 ∷ 6 ∷ 8 ∷ 9 ∷ 10 ∷ 11 ∷ 12 ∷ 13 ∷ 14 ∷ 15 ∷ []
+
+pub none-moving : (o : Op) → inPlace o ≡ true → OneOf moving (tagOf the-type o) → ⊥
+none-moving (Make p) t h = false≢true t
+none-moving (Set p) t h = miss moving 1 tt h
+none-moving (SwapR p) t h = miss moving 2 tt h
+none-moving (SwapC p) t h = miss moving 3 tt h
+none-moving (Add p) t h = miss moving 4 tt h
+none-moving On t h = false≢true t
+none-moving Off t h = false≢true t
+none-moving (Freeze p) t h = miss moving 7 tt h
+none-moving (Resize p) t h = false≢true t
+none-moving (Get p) t h = false≢true t
+none-moving (Count p) t h = false≢true t
+none-moving (Words p) t h = false≢true t
+none-moving (TailOnes p) t h = false≢true t
+none-moving (Iter p) t h = false≢true t
+none-moving (ColOnes p) t h = false≢true t
+none-moving Size t h = false≢true t
+
+abbrev pub staying : List ℕ
+staying = 1 ∷ 2 ∷ 3 ∷ 4 ∷ 7 ∷ 9 ∷ 10 ∷ 11 ∷ 12 ∷ 13 ∷ 14 ∷ 15 ∷ []
+
+pub stays : (o : Op) → asks o ≡ false → OneOf staying (tagOf the-type o) → inPlace o ≡ true
+stays (Make p) t h = absurd (miss staying 0 tt h)
+stays (Set p) t h = refl
+stays (SwapR p) t h = refl
+stays (SwapC p) t h = refl
+stays (Add p) t h = refl
+stays On t h = absurd (miss staying 5 tt h)
+stays Off t h = absurd (miss staying 6 tt h)
+stays (Freeze p) t h = refl
+stays (Resize p) t h = absurd (miss staying 8 tt h)
+stays (Get p) t h = absurd (true≢false t)
+stays (Count p) t h = absurd (true≢false t)
+stays (Words p) t h = absurd (true≢false t)
+stays (TailOnes p) t h = absurd (true≢false t)
+stays (Iter p) t h = absurd (true≢false t)
+stays (ColOnes p) t h = absurd (true≢false t)
+stays Size t h = absurd (true≢false t)
+
+pub in-place-not-make : (o : Op) → inPlace o ≡ true → isMake (kind o) ≡ false
+in-place-not-make (Make p) t = absurd (false≢true t)
+in-place-not-make (Set p) t = refl
+in-place-not-make (SwapR p) t = refl
+in-place-not-make (SwapC p) t = refl
+in-place-not-make (Add p) t = refl
+in-place-not-make On t = refl
+in-place-not-make Off t = refl
+in-place-not-make (Freeze p) t = refl
+in-place-not-make (Resize p) t = refl
+in-place-not-make (Get p) t = refl
+in-place-not-make (Count p) t = refl
+in-place-not-make (Words p) t = refl
+in-place-not-make (TailOnes p) t = refl
+in-place-not-make (Iter p) t = refl
+in-place-not-make (ColOnes p) t = refl
+in-place-not-make Size t = refl

@@ -71,6 +71,25 @@ asks (op.Iter p) = true
 asks (op.ColOnes p) = true
 asks op.Size = true
 
+-- five of those that change the store leave the index's lists as they stand
+abbrev pub inPlace : Op → Bool
+inPlace (op.Make p) = false
+inPlace (op.Set p) = true
+inPlace (op.SwapR p) = true
+inPlace (op.SwapC p) = true
+inPlace (op.Add p) = true
+inPlace op.On = false
+inPlace op.Off = false
+inPlace (op.Freeze p) = true
+inPlace (op.Resize p) = false
+inPlace (op.Get p) = false
+inPlace (op.Count p) = false
+inPlace (op.Words p) = false
+inPlace (op.TailOnes p) = false
+inPlace (op.Iter p) = false
+inPlace (op.ColOnes p) = false
+inPlace op.Size = false
+
 -- where in the lent words the part of WORDS begins: "from home row times words per row"
 abbrev pub partAt : Op → model.Store → ℕ
 partAt (op.Words p) s = model.homeRow s (p .r) * wordsFor (s .head .n)

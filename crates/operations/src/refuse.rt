@@ -1,7 +1,7 @@
 // Which number refuses an operation, before anything is written: one decision for all sixteen, in 01's order, by the functions that the operations themselves go by.
-use changes::add;
+use cells::add;
+use cells::set;
 use changes::make;
-use changes::set;
 use changes::swap;
 use changes::switch;
 use queries::column_list;

@@ -1,8 +1,8 @@
 // The public calls that change the store: each checks the whole store first, and refuses a damaged one with 1; then its inner twin does the work or refuses.
 use crate::Changed;
 use crate::Head;
-use changes::add;
-use changes::set;
+use cells::add;
+use cells::set;
 use changes::swap;
 use changes::switch;
 use reshape::freeze;

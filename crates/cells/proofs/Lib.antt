@@ -1,0 +1,4 @@
+pub mod RowChanges
+pub mod Sets
+pub mod Sums
+pub mod Adds
