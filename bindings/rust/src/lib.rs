@@ -10,6 +10,36 @@ mod raw;
 
 pub use raw::Head;
 
+/// A call of the library over a store: its head, then a pointer and a length for each buffer, then the call's own words.
+macro_rules! over {
+    ($store:ident, $call:ident, $pointer:ident $(, $word:expr)*) => {
+        raw::$call(
+            $store.head,
+            $store.lent.slots.$pointer(),
+            $store.lent.slots.len(),
+            $store.lent.counts.$pointer(),
+            $store.lent.counts.len(),
+            $store.lent.row_homes.$pointer(),
+            $store.lent.row_homes.len(),
+            $store.lent.row_logicals.$pointer(),
+            $store.lent.row_logicals.len(),
+            $store.lent.column_homes.$pointer(),
+            $store.lent.column_homes.len(),
+            $store.lent.column_logicals.$pointer(),
+            $store.lent.column_logicals.len(),
+            $store.lent.marks.$pointer(),
+            $store.lent.marks.len(),
+            $store.lent.starts.$pointer(),
+            $store.lent.starts.len(),
+            $store.lent.entries.$pointer(),
+            $store.lent.entries.len(),
+            $store.lent.words.$pointer(),
+            $store.lent.words.len(),
+            $($word),*
+        )
+    };
+}
+
 /// Why a call is refused, by 01's numbers.
 #[derive(Clone, Copy, Debug, PartialEq, Eq)]
 #[repr(u32)]
@@ -161,327 +191,70 @@ impl<'a> Store<'a> {
     /// MAKE: an h by w store whose last n columns are the tail, all zero, with `per_row` slots for each row; it asks for no store before it.
     pub fn make(&mut self, h: u32, w: u32, n: u32, per_row: u32) -> Result<(), Refusal> {
         // SAFETY: each pointer and length is a slice that this store borrows alone.
-        let x = unsafe {
-            raw::clatterthaw_make(
-                self.head,
-                self.lent.slots.as_mut_ptr(),
-                self.lent.slots.len(),
-                self.lent.counts.as_mut_ptr(),
-                self.lent.counts.len(),
-                self.lent.row_homes.as_mut_ptr(),
-                self.lent.row_homes.len(),
-                self.lent.row_logicals.as_mut_ptr(),
-                self.lent.row_logicals.len(),
-                self.lent.column_homes.as_mut_ptr(),
-                self.lent.column_homes.len(),
-                self.lent.column_logicals.as_mut_ptr(),
-                self.lent.column_logicals.len(),
-                self.lent.marks.as_mut_ptr(),
-                self.lent.marks.len(),
-                self.lent.starts.as_mut_ptr(),
-                self.lent.starts.len(),
-                self.lent.entries.as_mut_ptr(),
-                self.lent.entries.len(),
-                self.lent.words.as_mut_ptr(),
-                self.lent.words.len(),
-                h,
-                w,
-                n,
-                per_row,
-            )
-        };
+        let x = unsafe { over!(self, clatterthaw_make, as_mut_ptr, h, w, n, per_row) };
         self.keep(x)
     }
 
     /// SET: cell r, c becomes one, or zero.
     pub fn set(&mut self, r: u32, c: u32, v: bool) -> Result<(), Refusal> {
         // SAFETY: each pointer and length is a slice that this store borrows alone.
-        let x = unsafe {
-            raw::clatterthaw_set(
-                self.head,
-                self.lent.slots.as_mut_ptr(),
-                self.lent.slots.len(),
-                self.lent.counts.as_mut_ptr(),
-                self.lent.counts.len(),
-                self.lent.row_homes.as_ptr(),
-                self.lent.row_homes.len(),
-                self.lent.row_logicals.as_ptr(),
-                self.lent.row_logicals.len(),
-                self.lent.column_homes.as_ptr(),
-                self.lent.column_homes.len(),
-                self.lent.column_logicals.as_ptr(),
-                self.lent.column_logicals.len(),
-                self.lent.marks.as_ptr(),
-                self.lent.marks.len(),
-                self.lent.starts.as_ptr(),
-                self.lent.starts.len(),
-                self.lent.entries.as_ptr(),
-                self.lent.entries.len(),
-                self.lent.words.as_mut_ptr(),
-                self.lent.words.len(),
-                r,
-                c,
-                v as u8,
-            )
-        };
+        let x = unsafe { over!(self, clatterthaw_set, as_mut_ptr, r, c, v as u8) };
         self.keep(x)
     }
 
     /// SWAPR: rows i and j are exchanged.
     pub fn swap_rows(&mut self, i: u32, j: u32) -> Result<(), Refusal> {
         // SAFETY: each pointer and length is a slice that this store borrows alone.
-        let x = unsafe {
-            raw::clatterthaw_swap_rows(
-                self.head,
-                self.lent.slots.as_ptr(),
-                self.lent.slots.len(),
-                self.lent.counts.as_ptr(),
-                self.lent.counts.len(),
-                self.lent.row_homes.as_mut_ptr(),
-                self.lent.row_homes.len(),
-                self.lent.row_logicals.as_mut_ptr(),
-                self.lent.row_logicals.len(),
-                self.lent.column_homes.as_ptr(),
-                self.lent.column_homes.len(),
-                self.lent.column_logicals.as_ptr(),
-                self.lent.column_logicals.len(),
-                self.lent.marks.as_ptr(),
-                self.lent.marks.len(),
-                self.lent.starts.as_ptr(),
-                self.lent.starts.len(),
-                self.lent.entries.as_ptr(),
-                self.lent.entries.len(),
-                self.lent.words.as_ptr(),
-                self.lent.words.len(),
-                i,
-                j,
-            )
-        };
+        let x = unsafe { over!(self, clatterthaw_swap_rows, as_mut_ptr, i, j) };
         self.keep(x)
     }
 
     /// SWAPC: columns i and j are exchanged.
     pub fn swap_columns(&mut self, i: u32, j: u32) -> Result<(), Refusal> {
         // SAFETY: each pointer and length is a slice that this store borrows alone.
-        let x = unsafe {
-            raw::clatterthaw_swap_columns(
-                self.head,
-                self.lent.slots.as_ptr(),
-                self.lent.slots.len(),
-                self.lent.counts.as_ptr(),
-                self.lent.counts.len(),
-                self.lent.row_homes.as_ptr(),
-                self.lent.row_homes.len(),
-                self.lent.row_logicals.as_ptr(),
-                self.lent.row_logicals.len(),
-                self.lent.column_homes.as_mut_ptr(),
-                self.lent.column_homes.len(),
-                self.lent.column_logicals.as_mut_ptr(),
-                self.lent.column_logicals.len(),
-                self.lent.marks.as_ptr(),
-                self.lent.marks.len(),
-                self.lent.starts.as_ptr(),
-                self.lent.starts.len(),
-                self.lent.entries.as_ptr(),
-                self.lent.entries.len(),
-                self.lent.words.as_ptr(),
-                self.lent.words.len(),
-                i,
-                j,
-            )
-        };
+        let x = unsafe { over!(self, clatterthaw_swap_columns, as_mut_ptr, i, j) };
         self.keep(x)
     }
 
     /// ADD: row s is added to row d.
     pub fn add(&mut self, d: u32, s: u32, start: u32) -> Result<(), Refusal> {
         // SAFETY: each pointer and length is a slice that this store borrows alone.
-        let x = unsafe {
-            raw::clatterthaw_add(
-                self.head,
-                self.lent.slots.as_mut_ptr(),
-                self.lent.slots.len(),
-                self.lent.counts.as_mut_ptr(),
-                self.lent.counts.len(),
-                self.lent.row_homes.as_ptr(),
-                self.lent.row_homes.len(),
-                self.lent.row_logicals.as_ptr(),
-                self.lent.row_logicals.len(),
-                self.lent.column_homes.as_ptr(),
-                self.lent.column_homes.len(),
-                self.lent.column_logicals.as_ptr(),
-                self.lent.column_logicals.len(),
-                self.lent.marks.as_mut_ptr(),
-                self.lent.marks.len(),
-                self.lent.starts.as_ptr(),
-                self.lent.starts.len(),
-                self.lent.entries.as_ptr(),
-                self.lent.entries.len(),
-                self.lent.words.as_mut_ptr(),
-                self.lent.words.len(),
-                d,
-                s,
-                start,
-            )
-        };
+        let x = unsafe { over!(self, clatterthaw_add, as_mut_ptr, d, s, start) };
         self.keep(x)
     }
 
     /// ON: the column index is built.
     pub fn on(&mut self) -> Result<(), Refusal> {
         // SAFETY: each pointer and length is a slice that this store borrows alone.
-        let x = unsafe {
-            raw::clatterthaw_on(
-                self.head,
-                self.lent.slots.as_ptr(),
-                self.lent.slots.len(),
-                self.lent.counts.as_ptr(),
-                self.lent.counts.len(),
-                self.lent.row_homes.as_ptr(),
-                self.lent.row_homes.len(),
-                self.lent.row_logicals.as_ptr(),
-                self.lent.row_logicals.len(),
-                self.lent.column_homes.as_ptr(),
-                self.lent.column_homes.len(),
-                self.lent.column_logicals.as_ptr(),
-                self.lent.column_logicals.len(),
-                self.lent.marks.as_mut_ptr(),
-                self.lent.marks.len(),
-                self.lent.starts.as_mut_ptr(),
-                self.lent.starts.len(),
-                self.lent.entries.as_mut_ptr(),
-                self.lent.entries.len(),
-                self.lent.words.as_ptr(),
-                self.lent.words.len(),
-            )
-        };
+        let x = unsafe { over!(self, clatterthaw_on, as_mut_ptr) };
         self.keep(x)
     }
 
     /// OFF: the column index is dropped.
     pub fn off(&mut self) -> Result<(), Refusal> {
         // SAFETY: each pointer and length is a slice that this store borrows alone.
-        let x = unsafe {
-            raw::clatterthaw_off(
-                self.head,
-                self.lent.slots.as_ptr(),
-                self.lent.slots.len(),
-                self.lent.counts.as_ptr(),
-                self.lent.counts.len(),
-                self.lent.row_homes.as_ptr(),
-                self.lent.row_homes.len(),
-                self.lent.row_logicals.as_ptr(),
-                self.lent.row_logicals.len(),
-                self.lent.column_homes.as_ptr(),
-                self.lent.column_homes.len(),
-                self.lent.column_logicals.as_ptr(),
-                self.lent.column_logicals.len(),
-                self.lent.marks.as_mut_ptr(),
-                self.lent.marks.len(),
-                self.lent.starts.as_mut_ptr(),
-                self.lent.starts.len(),
-                self.lent.entries.as_mut_ptr(),
-                self.lent.entries.len(),
-                self.lent.words.as_ptr(),
-                self.lent.words.len(),
-            )
-        };
+        let x = unsafe { over!(self, clatterthaw_off, as_mut_ptr) };
         self.keep(x)
     }
 
     /// FREEZE: column c, the last sparse one, joins the tail.
     pub fn freeze(&mut self, c: u32) -> Result<(), Refusal> {
         // SAFETY: each pointer and length is a slice that this store borrows alone.
-        let x = unsafe {
-            raw::clatterthaw_freeze(
-                self.head,
-                self.lent.slots.as_mut_ptr(),
-                self.lent.slots.len(),
-                self.lent.counts.as_mut_ptr(),
-                self.lent.counts.len(),
-                self.lent.row_homes.as_ptr(),
-                self.lent.row_homes.len(),
-                self.lent.row_logicals.as_ptr(),
-                self.lent.row_logicals.len(),
-                self.lent.column_homes.as_ptr(),
-                self.lent.column_homes.len(),
-                self.lent.column_logicals.as_ptr(),
-                self.lent.column_logicals.len(),
-                self.lent.marks.as_ptr(),
-                self.lent.marks.len(),
-                self.lent.starts.as_ptr(),
-                self.lent.starts.len(),
-                self.lent.entries.as_ptr(),
-                self.lent.entries.len(),
-                self.lent.words.as_mut_ptr(),
-                self.lent.words.len(),
-                c,
-            )
-        };
+        let x = unsafe { over!(self, clatterthaw_freeze, as_mut_ptr, c) };
         self.keep(x)
     }
 
     /// RESIZE: the matrix shrinks to h by w.
     pub fn resize(&mut self, h: u32, w: u32) -> Result<(), Refusal> {
         // SAFETY: each pointer and length is a slice that this store borrows alone.
-        let x = unsafe {
-            raw::clatterthaw_resize(
-                self.head,
-                self.lent.slots.as_mut_ptr(),
-                self.lent.slots.len(),
-                self.lent.counts.as_mut_ptr(),
-                self.lent.counts.len(),
-                self.lent.row_homes.as_mut_ptr(),
-                self.lent.row_homes.len(),
-                self.lent.row_logicals.as_mut_ptr(),
-                self.lent.row_logicals.len(),
-                self.lent.column_homes.as_ptr(),
-                self.lent.column_homes.len(),
-                self.lent.column_logicals.as_ptr(),
-                self.lent.column_logicals.len(),
-                self.lent.marks.as_ptr(),
-                self.lent.marks.len(),
-                self.lent.starts.as_ptr(),
-                self.lent.starts.len(),
-                self.lent.entries.as_ptr(),
-                self.lent.entries.len(),
-                self.lent.words.as_mut_ptr(),
-                self.lent.words.len(),
-                h,
-                w,
-            )
-        };
+        let x = unsafe { over!(self, clatterthaw_resize, as_mut_ptr, h, w) };
         self.keep(x)
     }
 
     /// SIZE: height, width and tail.
     pub fn size(&self) -> Result<Size, Refusal> {
         // SAFETY: each pointer and length is a slice; only the answers are written, and they are borrowed alone.
-        let x = unsafe {
-            raw::clatterthaw_size(
-                self.head,
-                self.lent.slots.as_ptr(),
-                self.lent.slots.len(),
-                self.lent.counts.as_ptr(),
-                self.lent.counts.len(),
-                self.lent.row_homes.as_ptr(),
-                self.lent.row_homes.len(),
-                self.lent.row_logicals.as_ptr(),
-                self.lent.row_logicals.len(),
-                self.lent.column_homes.as_ptr(),
-                self.lent.column_homes.len(),
-                self.lent.column_logicals.as_ptr(),
-                self.lent.column_logicals.len(),
-                self.lent.marks.as_ptr(),
-                self.lent.marks.len(),
-                self.lent.starts.as_ptr(),
-                self.lent.starts.len(),
-                self.lent.entries.as_ptr(),
-                self.lent.entries.len(),
-                self.lent.words.as_ptr(),
-                self.lent.words.len(),
-            )
-        };
+        let x = unsafe { over!(self, clatterthaw_size, as_ptr) };
         Refusal::of(x.no)?;
         Ok(Size { h: x.h, w: x.w, n: x.n })
     }
@@ -489,33 +262,7 @@ impl<'a> Store<'a> {
     /// GET: the bit in row r and column c.
     pub fn get(&self, r: u32, c: u32) -> Result<bool, Refusal> {
         // SAFETY: each pointer and length is a slice; only the answers are written, and they are borrowed alone.
-        let x = unsafe {
-            raw::clatterthaw_get(
-                self.head,
-                self.lent.slots.as_ptr(),
-                self.lent.slots.len(),
-                self.lent.counts.as_ptr(),
-                self.lent.counts.len(),
-                self.lent.row_homes.as_ptr(),
-                self.lent.row_homes.len(),
-                self.lent.row_logicals.as_ptr(),
-                self.lent.row_logicals.len(),
-                self.lent.column_homes.as_ptr(),
-                self.lent.column_homes.len(),
-                self.lent.column_logicals.as_ptr(),
-                self.lent.column_logicals.len(),
-                self.lent.marks.as_ptr(),
-                self.lent.marks.len(),
-                self.lent.starts.as_ptr(),
-                self.lent.starts.len(),
-                self.lent.entries.as_ptr(),
-                self.lent.entries.len(),
-                self.lent.words.as_ptr(),
-                self.lent.words.len(),
-                r,
-                c,
-            )
-        };
+        let x = unsafe { over!(self, clatterthaw_get, as_ptr, r, c) };
         Refusal::of(x.no)?;
         Ok(x.value == 1)
     }
@@ -523,34 +270,7 @@ impl<'a> Store<'a> {
     /// COUNT: how many of the sparse columns a to b-1 hold one in row r.
     pub fn count(&self, r: u32, a: u32, b: u32) -> Result<u32, Refusal> {
         // SAFETY: each pointer and length is a slice; only the answers are written, and they are borrowed alone.
-        let x = unsafe {
-            raw::clatterthaw_count(
-                self.head,
-                self.lent.slots.as_ptr(),
-                self.lent.slots.len(),
-                self.lent.counts.as_ptr(),
-                self.lent.counts.len(),
-                self.lent.row_homes.as_ptr(),
-                self.lent.row_homes.len(),
-                self.lent.row_logicals.as_ptr(),
-                self.lent.row_logicals.len(),
-                self.lent.column_homes.as_ptr(),
-                self.lent.column_homes.len(),
-                self.lent.column_logicals.as_ptr(),
-                self.lent.column_logicals.len(),
-                self.lent.marks.as_ptr(),
-                self.lent.marks.len(),
-                self.lent.starts.as_ptr(),
-                self.lent.starts.len(),
-                self.lent.entries.as_ptr(),
-                self.lent.entries.len(),
-                self.lent.words.as_ptr(),
-                self.lent.words.len(),
-                r,
-                a,
-                b,
-            )
-        };
+        let x = unsafe { over!(self, clatterthaw_count, as_ptr, r, a, b) };
         Refusal::of(x.no)?;
         Ok(x.value)
     }
@@ -558,36 +278,7 @@ impl<'a> Store<'a> {
     /// ITER: the columns a to b-1 that hold one in row r, by rising home number.
     pub fn iter<'b>(&self, answers: &'b mut [u32], r: u32, a: u32, b: u32) -> Result<&'b [u32], Refusal> {
         // SAFETY: each pointer and length is a slice; only the answers are written, and they are borrowed alone.
-        let x = unsafe {
-            raw::clatterthaw_iter(
-                self.head,
-                self.lent.slots.as_ptr(),
-                self.lent.slots.len(),
-                self.lent.counts.as_ptr(),
-                self.lent.counts.len(),
-                self.lent.row_homes.as_ptr(),
-                self.lent.row_homes.len(),
-                self.lent.row_logicals.as_ptr(),
-                self.lent.row_logicals.len(),
-                self.lent.column_homes.as_ptr(),
-                self.lent.column_homes.len(),
-                self.lent.column_logicals.as_ptr(),
-                self.lent.column_logicals.len(),
-                self.lent.marks.as_ptr(),
-                self.lent.marks.len(),
-                self.lent.starts.as_ptr(),
-                self.lent.starts.len(),
-                self.lent.entries.as_ptr(),
-                self.lent.entries.len(),
-                self.lent.words.as_ptr(),
-                self.lent.words.len(),
-                answers.as_mut_ptr(),
-                answers.len(),
-                r,
-                a,
-                b,
-            )
-        };
+        let x = unsafe { over!(self, clatterthaw_iter, as_ptr, answers.as_mut_ptr(), answers.len(), r, a, b) };
         Refusal::of(x.no)?;
         Ok(&answers[..x.count as usize])
     }
@@ -595,35 +286,7 @@ impl<'a> Store<'a> {
     /// TAILONES: the tail columns that hold one in row r; a is the first tail column.
     pub fn tail_ones<'b>(&self, answers: &'b mut [u32], r: u32, a: u32) -> Result<&'b [u32], Refusal> {
         // SAFETY: each pointer and length is a slice; only the answers are written, and they are borrowed alone.
-        let x = unsafe {
-            raw::clatterthaw_tail_ones(
-                self.head,
-                self.lent.slots.as_ptr(),
-                self.lent.slots.len(),
-                self.lent.counts.as_ptr(),
-                self.lent.counts.len(),
-                self.lent.row_homes.as_ptr(),
-                self.lent.row_homes.len(),
-                self.lent.row_logicals.as_ptr(),
-                self.lent.row_logicals.len(),
-                self.lent.column_homes.as_ptr(),
-                self.lent.column_homes.len(),
-                self.lent.column_logicals.as_ptr(),
-                self.lent.column_logicals.len(),
-                self.lent.marks.as_ptr(),
-                self.lent.marks.len(),
-                self.lent.starts.as_ptr(),
-                self.lent.starts.len(),
-                self.lent.entries.as_ptr(),
-                self.lent.entries.len(),
-                self.lent.words.as_ptr(),
-                self.lent.words.len(),
-                answers.as_mut_ptr(),
-                answers.len(),
-                r,
-                a,
-            )
-        };
+        let x = unsafe { over!(self, clatterthaw_tail_ones, as_ptr, answers.as_mut_ptr(), answers.len(), r, a) };
         Refusal::of(x.no)?;
         Ok(&answers[..x.count as usize])
     }
@@ -631,36 +294,7 @@ impl<'a> Store<'a> {
     /// COLONES: the rows a to b-1 that hold one in column c.
     pub fn column_ones<'b>(&self, answers: &'b mut [u32], c: u32, a: u32, b: u32) -> Result<&'b [u32], Refusal> {
         // SAFETY: each pointer and length is a slice; only the answers are written, and they are borrowed alone.
-        let x = unsafe {
-            raw::clatterthaw_column_ones(
-                self.head,
-                self.lent.slots.as_ptr(),
-                self.lent.slots.len(),
-                self.lent.counts.as_ptr(),
-                self.lent.counts.len(),
-                self.lent.row_homes.as_ptr(),
-                self.lent.row_homes.len(),
-                self.lent.row_logicals.as_ptr(),
-                self.lent.row_logicals.len(),
-                self.lent.column_homes.as_ptr(),
-                self.lent.column_homes.len(),
-                self.lent.column_logicals.as_ptr(),
-                self.lent.column_logicals.len(),
-                self.lent.marks.as_ptr(),
-                self.lent.marks.len(),
-                self.lent.starts.as_ptr(),
-                self.lent.starts.len(),
-                self.lent.entries.as_ptr(),
-                self.lent.entries.len(),
-                self.lent.words.as_ptr(),
-                self.lent.words.len(),
-                answers.as_mut_ptr(),
-                answers.len(),
-                c,
-                a,
-                b,
-            )
-        };
+        let x = unsafe { over!(self, clatterthaw_column_ones, as_ptr, answers.as_mut_ptr(), answers.len(), c, a, b) };
         Refusal::of(x.no)?;
         Ok(&answers[..x.count as usize])
     }
@@ -668,33 +302,7 @@ impl<'a> Store<'a> {
     /// WORDS: the words of row r's tail; a is the first tail column.
     pub fn words(&self, r: u32, a: u32) -> Result<&[u64], Refusal> {
         // SAFETY: each pointer and length is a slice; only the answers are written, and they are borrowed alone.
-        let x = unsafe {
-            raw::clatterthaw_words(
-                self.head,
-                self.lent.slots.as_ptr(),
-                self.lent.slots.len(),
-                self.lent.counts.as_ptr(),
-                self.lent.counts.len(),
-                self.lent.row_homes.as_ptr(),
-                self.lent.row_homes.len(),
-                self.lent.row_logicals.as_ptr(),
-                self.lent.row_logicals.len(),
-                self.lent.column_homes.as_ptr(),
-                self.lent.column_homes.len(),
-                self.lent.column_logicals.as_ptr(),
-                self.lent.column_logicals.len(),
-                self.lent.marks.as_ptr(),
-                self.lent.marks.len(),
-                self.lent.starts.as_ptr(),
-                self.lent.starts.len(),
-                self.lent.entries.as_ptr(),
-                self.lent.entries.len(),
-                self.lent.words.as_ptr(),
-                self.lent.words.len(),
-                r,
-                a,
-            )
-        };
+        let x = unsafe { over!(self, clatterthaw_words, as_ptr, r, a) };
         Refusal::of(x.no)?;
         Ok(&self.lent.words[x.start..x.start + x.count as usize])
     }
@@ -704,34 +312,16 @@ impl<'a> Store<'a> {
     pub fn run(&mut self, answers: &mut [u32], records: &[u8], lines: &mut [u8]) -> Result<Ran, Refusal> {
         // SAFETY: each pointer and length is a slice that is borrowed alone, but for the records, which are only read.
         let x = unsafe {
-            raw::clatterthaw_run(
-                self.head,
-                self.lent.slots.as_mut_ptr(),
-                self.lent.slots.len(),
-                self.lent.counts.as_mut_ptr(),
-                self.lent.counts.len(),
-                self.lent.row_homes.as_mut_ptr(),
-                self.lent.row_homes.len(),
-                self.lent.row_logicals.as_mut_ptr(),
-                self.lent.row_logicals.len(),
-                self.lent.column_homes.as_mut_ptr(),
-                self.lent.column_homes.len(),
-                self.lent.column_logicals.as_mut_ptr(),
-                self.lent.column_logicals.len(),
-                self.lent.marks.as_mut_ptr(),
-                self.lent.marks.len(),
-                self.lent.starts.as_mut_ptr(),
-                self.lent.starts.len(),
-                self.lent.entries.as_mut_ptr(),
-                self.lent.entries.len(),
-                self.lent.words.as_mut_ptr(),
-                self.lent.words.len(),
+            over!(
+                self,
+                clatterthaw_run,
+                as_mut_ptr,
                 answers.as_mut_ptr(),
                 answers.len(),
                 records.as_ptr(),
                 records.len(),
                 lines.as_mut_ptr(),
-                lines.len(),
+                lines.len()
             )
         };
         self.head = x.head;
