@@ -8,12 +8,12 @@ use Rattle.laws.specs.Rows.{Rising, xorMerge}
 use Rattle.laws.specs.Parts.{part, putAt}
 use Rattle.sparse_vec.specs.Row.{rowSum}
 
--- x can stand from place lo up to place hi only: what is before lo is smaller, what is from hi on is larger
-pub record Between (row : List ℕ) (x lo hi : ℕ) : Type 0 where
-  pub lo-le : lo ≤ hi
-  pub hi-le : hi ≤ length row
-  pub below : (k : ℕ) → k < lo → getD row k 0 < x
-  pub above : (k : ℕ) → hi ≤ k → k < length row → x < getD row k 0
+-- x is looked for among the n numbers from place `at` on: all before them are below x, all after them above it
+pub record Within (row : List ℕ) (x at n : ℕ) : Type 0 where
+  pub some : 1 ≤ n
+  pub inside : at + n ≤ length row
+  pub below : (k : ℕ) → k < at → getD row k 0 < x
+  pub above : (k : ℕ) → at + n ≤ k → k < length row → x < getD row k 0
 
 -- the list with x before its place i
 unfoldable pub insertAt : ℕ → ℕ → List ℕ → List ℕ
