@@ -1,4 +1,2 @@
-pub mod Clears
 pub mod Swaps
 pub mod Switches
-pub mod Makes

@@ -22,7 +22,7 @@ use Rattle.store_head.specs.Lent.{fullOf}
 use Rattle.store_head.specs.Refused.{refusalOf}
 use Rattle.store_head.proofs.Ends.{Refuses, Leaves}
 use Rattle.store_head.proofs.Refuses.{past}
-use Rattle.changes.proofs.Clears.{all-clear}
+use Rattle.store_head.proofs.Clears.{all-clear}
 
 -- what the index uses, on or off: the entries up to the last start, the starts and marks of the columns. All others are zero
 pub record Tidy (s : Store) : Type 0 where

@@ -1,4 +1,3 @@
-// MAKE, on any store, and the operations that change maps and the index, on a store that is known to be well-formed: SWAPR, SWAPC, ON, OFF.
-pub mod make;
+// The operations that change maps and the index, on a store that is known to be well-formed: SWAPR, SWAPC, ON, OFF.
 pub mod swap;
 pub mod switch;

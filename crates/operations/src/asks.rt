@@ -1,9 +1,9 @@
 // The seven operations that ask the store.
 use crate::Told;
 use crate::tell;
-use queries::column_list;
+use listings::column_list;
+use listings::row_lists;
 use queries::query;
-use queries::row_lists;
 use queries::row_tail;
 use store_head::Numbers;
 use table::Op;

@@ -1,9 +1,9 @@
 // The nine operations that change the store.
 use cells::add;
 use cells::set;
-use changes::make;
 use changes::swap;
 use changes::switch;
+use making::make;
 use reshape::freeze;
 use reshape::resize;
 use store_head::Changed;

@@ -1,12 +1,12 @@
 // Which number refuses an operation, before anything is written: one decision for all sixteen, in 01's order, by the functions that the operations themselves go by.
 use cells::add;
 use cells::set;
-use changes::make;
 use changes::swap;
 use changes::switch;
-use queries::column_list;
+use listings::column_list;
+use listings::row_lists;
+use making::make;
 use queries::query;
-use queries::row_lists;
 use queries::row_tail;
 use reshape::freeze;
 use reshape::resize;

@@ -1,5 +1,2 @@
-pub mod QueryPlaces
 pub mod QueryNumbers
-pub mod QueryLists
-pub mod QueryColumn
 pub mod QueryWords

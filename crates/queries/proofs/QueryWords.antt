@@ -15,7 +15,7 @@ use Rattle.model.specs.WellFormed.{WellFormed}
 use Rattle.model.specs.Step.{inner}
 use Rattle.model.proofs.Tail.{words-mean}
 use Rattle.store_head.specs.Told.{handed}
-use Rattle.queries.proofs.QueryPlaces.{words-in}
+use Rattle.store_head.proofs.QueryPlaces.{words-in}
 
 module _ (p : RowTail) (f : Full) where
   pub words-row : f .store .head .h ≤ p .r → nay 4 ≡ replyOf (inner (Words p) f)

@@ -1,5 +1,6 @@
 pub mod Turns
 pub mod Measuring
+pub mod Longest
 pub mod Saying
 pub mod RunIsItsSingleCalls
 pub mod RoomNeverChangesARun

@@ -35,13 +35,13 @@ use Rattle.model.proofs.Rows.{frame-of, row-length}
 use Rattle.store_head.specs.declared.Number.{Number}
 use Rattle.store_head.specs.declared.Number.the-variants as numbered
 use Rattle.store_head.specs.Query.{InSlots}
-use Rattle.queries.proofs.QueryPlaces.{in-slots, row-mapped, tail-in, column-low, column-in, list-in, list-shows}
+use Rattle.store_head.proofs.QueryPlaces.{in-slots, row-mapped, tail-in, column-low, column-in, list-in, list-shows}
 use Rattle.store_head.specs.Lent.{fullOf}
 use Rattle.store_head.specs.Refused.{refusalOf}
 use Rattle.store_head.specs.Told.{numberSays, handed}
 use Rattle.store_head.proofs.Refuses.{past, accepted, refuses}
-use Rattle.queries.proofs.QueryLists.{iter-low, iter-sparse, iter-fits, iter-is, tail-low, tail-first, tail-some, tail-fits, tail-is}
-use Rattle.queries.proofs.QueryColumn.{colones-wide, colones-sparse, colones-on, colones-exact, colones-fits, colones-is}
+use Rattle.listings.proofs.QueryLists.{iter-low, iter-sparse, iter-fits, iter-is, tail-low, tail-first, tail-some, tail-fits, tail-is}
+use Rattle.listings.proofs.QueryColumn.{colones-wide, colones-sparse, colones-on, colones-exact, colones-fits, colones-is}
 use Rattle.lines.specs.Line.{lineLong}
 use Rattle.lines.proofs.Writing.{long-none}
 use Rattle.operations.proofs.Arms.{aside}

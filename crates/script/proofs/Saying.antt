@@ -8,7 +8,8 @@ use native.Mathlib.Omega.{arith}
 use types.Run.{OneOf, miss}
 use denote.Enum.Declared.{tagOf}
 use lib.Seq.{sets}
-use borrow.Author.Tests.{le-leb, lt-leb}
+use borrow.Author.Tests.{leb-true}
+use lib.Dec.{leb}
 use lib.ListN.{length, length-append, take, drop, getD, List·getD-eq-default}
 use Rattle.laws.specs.Parts.{part, stretch, over}
 use Rattle.laws.specs.Words.{wordsFor}
@@ -27,7 +28,7 @@ use Rattle.store_head.specs.Lent.{fullOf}
 use Rattle.store_head.specs.Refused.{refusalOf}
 use Rattle.store_head.proofs.Refuses.{accepted, none-told}
 use Rattle.store_head.proofs.Replies.{values}
-use Rattle.queries.proofs.QueryPlaces.{words-in}
+use Rattle.store_head.proofs.QueryPlaces.{words-in}
 use Rattle.lines.specs.Line.{lineOf, lineLong}
 use Rattle.store_head.specs.declared.Numbers.{Numbers}
 use Rattle.operations.specs.declared.Told.{Told}
@@ -177,21 +178,21 @@ module _ (o : Op) (f : Full) (v : WellFormed (f .store)) (u : Store) (answers : 
     reply-said =
         said-is t (form o) (partAt o (f .store)) (u .words) answers (λ z. never o f v (sym (ap (λ (r : Result). r .reply) e) ∙ z)) ∙ ap (λ (r : Result). r .reply) e
 
-    pub can-put : (lines : List ℕ) (used long at : ℕ) → at ≡ partAt o (f .store) → long ≡ lineLong (replyOf (inner o f)) → used ≤ length lines → long ≤ length lines - used
+    pub can-put : (lines : List ℕ) (used at : ℕ) → at ≡ partAt o (f .store) → used ≤ length lines → leb (lineLong (replyOf (inner o f))) (length lines - used) ≡ true
         → CanPut t at (u .words) answers lines used
-    can-put lines used long at ea el low fits =
+    can-put lines used at ea low fits =
         record {
           places = places t (form o) refl e;
           words = rw ea (tail-words t (form o) refl e);
-          room = rw (ea, reply-said, sym el) (omega arith);
+          room = rw (ea, reply-said) (omega (arith, leb-true (lineLong (replyOf (inner o f))) (length lines - used) fits));
         }
 
     -- it fits: it is written, and the work is done
-    pub gone : (next at used long from end : ℕ) (lines left : List ℕ) → from ≡ partAt o (f .store) → long ≡ lineLong (replyOf (inner o f)) → long ≤ length lines - used
+    pub gone : (next at used from end : ℕ) (lines left : List ℕ) → from ≡ partAt o (f .store) → leb (lineLong (replyOf (inner o f))) (length lines - used) ≡ true
         → end ≡ used + lineLong (said t from (u .words) answers) → left ≡ sets lines used (lineOf (said t from (u .words) answers))
         → record { went = true; at = next; used = end; after = fullOf u answers; lines = left } ≡ turnBy (step o f) next at used lines f
-    gone next at used long from end lines left ef el fits ee em =
-        rw (step-is-inner o f v, le-leb (lineLong (replyOf (inner o f))) (length lines - used) (omega arith))
+    gone next at used from end lines left ef fits ee em =
+        rw (step-is-inner o f v, fits)
         (λ i. record { went = true; at = next; used = place-after i; after = e i .after; lines = written i })
       where
         reply : said t from (u .words) answers ≡ replyOf (inner o f)
@@ -204,9 +205,9 @@ module _ (o : Op) (f : Full) (v : WellFormed (f .store)) (u : Store) (answers : 
         written = em ∙ ap (λ (r : Reply). sets lines used (lineOf r)) reply
 
 -- the line does not fit: nothing is done
-pub stopped : (o : Op) (f : Full) → WellFormed (f .store) → (next at used long : ℕ) (lines : List ℕ) → long ≡ lineLong (replyOf (inner o f)) → length lines - used < long
+pub stopped : (o : Op) (f : Full) → WellFormed (f .store) → (next at used : ℕ) (lines : List ℕ) → leb (lineLong (replyOf (inner o f))) (length lines - used) ≡ false
     → record { went = false; at = at; used = used; after = f; lines = lines } ≡ turnBy (step o f) next at used lines f
-stopped o f v next at used long lines el short = rw (step-is-inner o f v, lt-leb (lineLong (replyOf (inner o f))) (length lines - used) (omega arith))
+stopped o f v next at used lines short = rw (step-is-inner o f v, short)
 
 -- ---- where the part of WORDS begins
 part-same : (o : Op) (s u : Store) → s .rows .homes ≡ u .rows .homes → s .head .n ≡ u .head .n → partAt o s ≡ partAt o u

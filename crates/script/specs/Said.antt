@@ -1,6 +1,6 @@
 -- What one call tells, as the reply that its line writes. Assumes nothing.
 use mathlib.Core.List.{List, [], _∷_}
-use Prim.Native.Nat.{ℕ, _+_, _≤_}
+use Prim.Native.Nat.{ℕ, _+_, _*_, _≤_}
 use lib.ListN.{length}
 use Rattle.laws.specs.Parts.{stretch}
 use Rattle.table.specs.Run.{Reply, ok, nay}
@@ -10,6 +10,7 @@ use Rattle.store_head.specs.declared.Numbers.{Numbers}
 use Rattle.store_head.specs.Lent.{storeOf}
 use Rattle.operations.specs.declared.Told.{Told}
 use Rattle.operations.specs.declared.Told.the-variants as told
+use Rattle.operations.specs.Applied as form
 
 -- the head and the row map alone, for what looks at no other number
 abbrev pub homesOf : Numbers → List ℕ → Store
@@ -46,3 +47,11 @@ pub record CanPut (t : Told) (at : ℕ) (ws answers lines : List ℕ) (used : �
   pub places : placesRead t ≤ length answers
   pub words : wordsRead t at ≤ length ws
   pub room : used + lineLong (said t at ws answers) ≤ length lines
+
+-- no operation's line is longer: `ok` or a refusal of two digits, a number of five, three of them, up to `places` of them, or 1,024 words of twenty
+abbrev pub mostLong : form.Form → ℕ → ℕ
+mostLong form.done places = 6
+mostLong form.number places = 9
+mostLong form.sizes places = 21
+mostLong form.list places = 6 + places * 6
+mostLong form.words places = 21507

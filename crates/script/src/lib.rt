@@ -110,8 +110,7 @@ pub fn run(
     records: &[u8],
     lines: &mut [u8],
 ) -> Ran
-    ensures { λ x. ⌜ ranTold (head .0) x (λ d. fullOf (storeOf d (now (slots .exit)) (now (counts .exit)) (now («row_homes» .exit)) (now («row_logicals» .exit)) (now («column_homes» .exit)) (now («column_logicals» .exit)) (now (marks .exit)) (now (starts .exit)) (now (entries .exit)) (now (words .exit))) (now (answers .exit))) (now (lines .exit)) ≡ runOf (now (records .entry)) (now (lines .entry)) (fullOf (storeOf (head .0) (now (slots .entry)) (now (counts .entry)) (now («row_homes» .entry)) (now («row_logicals» .entry)) (now («column_homes» .entry)) (now («column_logicals» .entry)) (now (marks .entry)) (now (starts .entry)) (now (entries .entry)) (now (words .entry))) (now (answers .entry))) ⌝ }
-    ensures { λ x. ⌜ (doneIn x ≤ length (now (records .entry))) × (writtenIn x ≤ length (now (lines .exit))) ⌝ }
+    ensures { λ x. ⌜ (ranTold (head .0) x (λ d. fullOf (storeOf d (now (slots .exit)) (now (counts .exit)) (now («row_homes» .exit)) (now («row_logicals» .exit)) (now («column_homes» .exit)) (now («column_logicals» .exit)) (now (marks .exit)) (now (starts .exit)) (now (entries .exit)) (now (words .exit))) (now (answers .exit))) (now (lines .exit)) ≡ runOf (now (records .entry)) (now (lines .entry)) (fullOf (storeOf (head .0) (now (slots .entry)) (now (counts .entry)) (now («row_homes» .entry)) (now («row_logicals» .entry)) (now («column_homes» .entry)) (now («column_logicals» .entry)) (now (marks .entry)) (now (starts .entry)) (now (entries .entry)) (now (words .entry))) (now (answers .entry)))) × ((doneIn x ≤ length (now (records .entry))) × (writtenIn x ≤ length (now (lines .exit)))) ⌝ }
 {
     if !store_check::well_formed(
         head.0,

@@ -13,6 +13,8 @@ use table::RowRange;
 use table::RowTail;
 ghost use mathlib.Core.Path.{_≡_};
 ghost use Prim.Native.Nat.{_≤_};
+ghost use lib.Dec.{leb};
+ghost use lib.ListN.{length};
 ghost use Rattle.table.specs.declared.Op.the-variants.{Iter, TailOnes, ColOnes};
 ghost use Rattle.table.specs.Run.{replyOf};
 ghost use Rattle.model.specs.WellFormed.{WellFormed};
@@ -21,6 +23,8 @@ ghost use Rattle.store_head.specs.Lent.{storeOf, fullOf};
 ghost use Rattle.store_head.specs.Refused.{refusalOf};
 ghost use Rattle.store_head.specs.Told.{numberSays};
 ghost use Rattle.lines.specs.Line.{lineLong};
+ghost use Rattle.operations.specs.Applied.{form};
+ghost use Rattle.script.specs.Said.{mostLong};
 
 // The line of ITER, where nothing refuses it.
 fn iter_line(
@@ -107,7 +111,7 @@ fn number_line(x: Number) -> usize
 }
 
 // The line of any operation, refused or not.
-pub fn line_length(
+fn line_length(
     head: Numbers,
     slots: &[u16],
     counts: &[u16],
@@ -238,4 +242,61 @@ pub fn line_length(
         Op::Size => lines::three_length(head.h, head.w, head.n),
         _ => 3,
     }
+}
+
+// The longest line that an operation can have, by what it answers: known without a look at the store.
+fn most_long(op: Op, answers: &[u32]) -> usize
+    ensures { λ k. ⌜ k ≡ mostLong (form op) (length (now (answers .entry))) ⌝ }
+{
+    match op {
+        Op::Get(p) => 9,
+        Op::Count(p) => 9,
+        Op::Words(p) => 21507,
+        Op::TailOnes(p) => 6 + answers.len() * 6,
+        Op::Iter(p) => 6 + answers.len() * 6,
+        Op::ColOnes(p) => 6 + answers.len() * 6,
+        Op::Size => 21,
+        _ => 6,
+    }
+}
+
+// Whether the line of an operation has room. Where its longest one has, nothing is measured: the store is asked once, by the operation itself.
+pub fn has_room(
+    head: Numbers,
+    slots: &[u16],
+    counts: &[u16],
+    row_homes: &[u32],
+    row_logicals: &[u32],
+    column_homes: &[u16],
+    column_logicals: &[u16],
+    marks: &[u8],
+    starts: &[u64],
+    entries: &[u32],
+    words: &[u64],
+    answers: &[u32],
+    op: Op,
+    room: usize,
+) -> bool
+    requires { ⌜ WellFormed (storeOf head (now slots) (now counts) (now «row_homes») (now «row_logicals») (now «column_homes») (now «column_logicals») (now marks) (now starts) (now entries) (now words)) ⌝ }
+    ensures { λ r. ⌜ r ≡ leb (lineLong (replyOf (inner op (fullOf (storeOf head (now (slots .entry)) (now (counts .entry)) (now («row_homes» .entry)) (now («row_logicals» .entry)) (now («column_homes» .entry)) (now («column_logicals» .entry)) (now (marks .entry)) (now (starts .entry)) (now (entries .entry)) (now (words .entry))) (now (answers .entry)))))) room ⌝ }
+{
+    if most_long(op, answers) <= room {
+        return true;
+    }
+    let long = line_length(
+        head,
+        slots,
+        counts,
+        row_homes,
+        row_logicals,
+        column_homes,
+        column_logicals,
+        marks,
+        starts,
+        entries,
+        words,
+        answers,
+        op,
+    );
+    long <= room
 }

@@ -1,4 +1,4 @@
-// One record of a run: its line's length is known before anything is written, so a record whose line does not fit leaves no trace.
+// One record of a run: whether its line fits is known before anything is written, so a record whose line does not fit leaves no trace.
 use crate::Turn;
 use crate::measure;
 use crate::tell;
@@ -63,7 +63,7 @@ fn perform(
     ensures { λ t. ⌜ turnTold t (λ d. fullOf (storeOf d (now (slots .exit)) (now (counts .exit)) (now («row_homes» .exit)) (now («row_logicals» .exit)) (now («column_homes» .exit)) (now («column_logicals» .exit)) (now (marks .exit)) (now (starts .exit)) (now (entries .exit)) (now (words .exit))) (now (answers .exit))) (now (lines .exit)) ≡ turnBy (step op (fullOf (storeOf head (now (slots .entry)) (now (counts .entry)) (now («row_homes» .entry)) (now («row_logicals» .entry)) (now («column_homes» .entry)) (now («column_logicals» .entry)) (now (marks .entry)) (now (starts .entry)) (now (entries .entry)) (now (words .entry))) (now (answers .entry)))) next at used (now (lines .entry)) (fullOf (storeOf head (now (slots .entry)) (now (counts .entry)) (now («row_homes» .entry)) (now («row_logicals» .entry)) (now («column_homes» .entry)) (now («column_logicals» .entry)) (now (marks .entry)) (now (starts .entry)) (now (entries .entry)) (now (words .entry))) (now (answers .entry))) ⌝ }
 {
     let room = lines.len() - used;
-    let long = measure::line_length(
+    if !measure::has_room(
         head,
         slots,
         counts,
@@ -77,8 +77,8 @@ fn perform(
         words,
         answers,
         op,
-    );
-    if room < long {
+        room,
+    ) {
         return Turn {
             head: head,
             at: at,

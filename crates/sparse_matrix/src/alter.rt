@@ -1,12 +1,9 @@
-// The public calls that change the store: each checks the whole store first, and refuses a damaged one with 1; then its inner twin does the work or refuses.
+// The public calls that change cells or exchange rows and columns: each checks the whole store first, and refuses a damaged one with 1; then its inner twin does the work or refuses.
 use crate::Changed;
 use crate::Head;
 use cells::add;
 use cells::set;
 use changes::swap;
-use changes::switch;
-use reshape::freeze;
-use reshape::resize;
 use store_head::refusals;
 ghost use mathlib.Core.Path.{_≡_};
 ghost use mathlib.Core.List.{[]};
@@ -17,6 +14,58 @@ ghost use Rattle.store_head.specs.Told.{changedTold};
 ghost use Rattle.sparse_matrix.specs.Heads.{inside};
 
 impl Head {
+    // SET: the bit in row r and column c becomes v.
+    pub fn set(
+        self,
+        slots: &mut [u16],
+        counts: &mut [u16],
+        row_homes: &[u32],
+        row_logicals: &[u32],
+        column_homes: &[u16],
+        column_logicals: &[u16],
+        marks: &[u8],
+        starts: &[u64],
+        entries: &[u32],
+        words: &mut [u64],
+        r: u32,
+        c: u32,
+        v: u8,
+    ) -> Changed
+        ensures { λ x. ⌜ changedTold (self .0) (inside x) (λ d. storeOf d (now (slots .exit)) (now (counts .exit)) (now («row_homes» .entry)) (now («row_logicals» .entry)) (now («column_homes» .entry)) (now («column_logicals» .entry)) (now (marks .entry)) (now (starts .entry)) (now (entries .entry)) (now (words .exit))) ≡ resultOf (fullOf (storeOf (self .0) (now (slots .entry)) (now (counts .entry)) (now («row_homes» .entry)) (now («row_logicals» .entry)) (now («column_homes» .entry)) (now («column_logicals» .entry)) (now (marks .entry)) (now (starts .entry)) (now (entries .entry)) (now (words .entry))) []) (step (op.Set (record { r = r; c = c; v = v })) (fullOf (storeOf (self .0) (now (slots .entry)) (now (counts .entry)) (now («row_homes» .entry)) (now («row_logicals» .entry)) (now («column_homes» .entry)) (now («column_logicals» .entry)) (now (marks .entry)) (now (starts .entry)) (now (entries .entry)) (now (words .entry))) [])) ⌝ }
+    {
+        if !store_check::well_formed(
+            self.0,
+            slots,
+            counts,
+            row_homes,
+            row_logicals,
+            column_homes,
+            column_logicals,
+            marks,
+            starts,
+            entries,
+            words,
+        ) {
+            return Changed::No(refusals::DAMAGED);
+        }
+        self.after(set::set_in(
+            self.0,
+            slots,
+            counts,
+            row_homes,
+            row_logicals,
+            column_homes,
+            column_logicals,
+            marks,
+            starts,
+            entries,
+            words,
+            r,
+            c,
+            v,
+        ))
+    }
+
     // SWAPR: rows i and j are exchanged.
     pub fn swap_rows(
         self,
@@ -117,150 +166,6 @@ impl Head {
         ))
     }
 
-    // ON: the index is built anew.
-    pub fn enable_column_access_acceleration(
-        self,
-        slots: &[u16],
-        counts: &[u16],
-        row_homes: &[u32],
-        row_logicals: &[u32],
-        column_homes: &[u16],
-        column_logicals: &[u16],
-        marks: &mut [u8],
-        starts: &mut [u64],
-        entries: &mut [u32],
-        words: &[u64],
-    ) -> Changed
-        ensures { λ x. ⌜ changedTold (self .0) (inside x) (λ d. storeOf d (now (slots .entry)) (now (counts .entry)) (now («row_homes» .entry)) (now («row_logicals» .entry)) (now («column_homes» .entry)) (now («column_logicals» .entry)) (now (marks .exit)) (now (starts .exit)) (now (entries .exit)) (now (words .entry))) ≡ resultOf (fullOf (storeOf (self .0) (now (slots .entry)) (now (counts .entry)) (now («row_homes» .entry)) (now («row_logicals» .entry)) (now («column_homes» .entry)) (now («column_logicals» .entry)) (now (marks .entry)) (now (starts .entry)) (now (entries .entry)) (now (words .entry))) []) (step op.On (fullOf (storeOf (self .0) (now (slots .entry)) (now (counts .entry)) (now («row_homes» .entry)) (now («row_logicals» .entry)) (now («column_homes» .entry)) (now («column_logicals» .entry)) (now (marks .entry)) (now (starts .entry)) (now (entries .entry)) (now (words .entry))) [])) ⌝ }
-    {
-        if !store_check::well_formed(
-            self.0,
-            slots,
-            counts,
-            row_homes,
-            row_logicals,
-            column_homes,
-            column_logicals,
-            marks,
-            starts,
-            entries,
-            words,
-        ) {
-            return Changed::No(refusals::DAMAGED);
-        }
-        self.after(switch::enable_column_access_acceleration_in(
-            self.0,
-            slots,
-            counts,
-            row_homes,
-            row_logicals,
-            column_homes,
-            column_logicals,
-            marks,
-            starts,
-            entries,
-            words,
-        ))
-    }
-
-    // OFF: the index is dropped.
-    pub fn disable_column_access_acceleration(
-        self,
-        slots: &[u16],
-        counts: &[u16],
-        row_homes: &[u32],
-        row_logicals: &[u32],
-        column_homes: &[u16],
-        column_logicals: &[u16],
-        marks: &mut [u8],
-        starts: &mut [u64],
-        entries: &mut [u32],
-        words: &[u64],
-    ) -> Changed
-        ensures { λ x. ⌜ changedTold (self .0) (inside x) (λ d. storeOf d (now (slots .entry)) (now (counts .entry)) (now («row_homes» .entry)) (now («row_logicals» .entry)) (now («column_homes» .entry)) (now («column_logicals» .entry)) (now (marks .exit)) (now (starts .exit)) (now (entries .exit)) (now (words .entry))) ≡ resultOf (fullOf (storeOf (self .0) (now (slots .entry)) (now (counts .entry)) (now («row_homes» .entry)) (now («row_logicals» .entry)) (now («column_homes» .entry)) (now («column_logicals» .entry)) (now (marks .entry)) (now (starts .entry)) (now (entries .entry)) (now (words .entry))) []) (step op.Off (fullOf (storeOf (self .0) (now (slots .entry)) (now (counts .entry)) (now («row_homes» .entry)) (now («row_logicals» .entry)) (now («column_homes» .entry)) (now («column_logicals» .entry)) (now (marks .entry)) (now (starts .entry)) (now (entries .entry)) (now (words .entry))) [])) ⌝ }
-    {
-        if !store_check::well_formed(
-            self.0,
-            slots,
-            counts,
-            row_homes,
-            row_logicals,
-            column_homes,
-            column_logicals,
-            marks,
-            starts,
-            entries,
-            words,
-        ) {
-            return Changed::No(refusals::DAMAGED);
-        }
-        self.after(switch::disable_column_access_acceleration_in(
-            self.0,
-            slots,
-            counts,
-            row_homes,
-            row_logicals,
-            column_homes,
-            column_logicals,
-            marks,
-            starts,
-            entries,
-            words,
-        ))
-    }
-
-    // SET: the bit in row r and column c becomes v.
-    pub fn set(
-        self,
-        slots: &mut [u16],
-        counts: &mut [u16],
-        row_homes: &[u32],
-        row_logicals: &[u32],
-        column_homes: &[u16],
-        column_logicals: &[u16],
-        marks: &[u8],
-        starts: &[u64],
-        entries: &[u32],
-        words: &mut [u64],
-        r: u32,
-        c: u32,
-        v: u8,
-    ) -> Changed
-        ensures { λ x. ⌜ changedTold (self .0) (inside x) (λ d. storeOf d (now (slots .exit)) (now (counts .exit)) (now («row_homes» .entry)) (now («row_logicals» .entry)) (now («column_homes» .entry)) (now («column_logicals» .entry)) (now (marks .entry)) (now (starts .entry)) (now (entries .entry)) (now (words .exit))) ≡ resultOf (fullOf (storeOf (self .0) (now (slots .entry)) (now (counts .entry)) (now («row_homes» .entry)) (now («row_logicals» .entry)) (now («column_homes» .entry)) (now («column_logicals» .entry)) (now (marks .entry)) (now (starts .entry)) (now (entries .entry)) (now (words .entry))) []) (step (op.Set (record { r = r; c = c; v = v })) (fullOf (storeOf (self .0) (now (slots .entry)) (now (counts .entry)) (now («row_homes» .entry)) (now («row_logicals» .entry)) (now («column_homes» .entry)) (now («column_logicals» .entry)) (now (marks .entry)) (now (starts .entry)) (now (entries .entry)) (now (words .entry))) [])) ⌝ }
-    {
-        if !store_check::well_formed(
-            self.0,
-            slots,
-            counts,
-            row_homes,
-            row_logicals,
-            column_homes,
-            column_logicals,
-            marks,
-            starts,
-            entries,
-            words,
-        ) {
-            return Changed::No(refusals::DAMAGED);
-        }
-        self.after(set::set_in(
-            self.0,
-            slots,
-            counts,
-            row_homes,
-            row_logicals,
-            column_homes,
-            column_logicals,
-            marks,
-            starts,
-            entries,
-            words,
-            r,
-            c,
-            v,
-        ))
-    }
-
     // ADD: row s is added to row d, from column start on.
     pub fn add_assign_rows(
         self,
@@ -310,104 +215,6 @@ impl Head {
             d,
             s,
             start,
-        ))
-    }
-
-    // FREEZE: column c, the last sparse one, joins the tail.
-    pub fn hint_column_dense_and_frozen(
-        self,
-        slots: &mut [u16],
-        counts: &mut [u16],
-        row_homes: &[u32],
-        row_logicals: &[u32],
-        column_homes: &[u16],
-        column_logicals: &[u16],
-        marks: &[u8],
-        starts: &[u64],
-        entries: &[u32],
-        words: &mut [u64],
-        c: u32,
-    ) -> Changed
-        ensures { λ x. ⌜ changedTold (self .0) (inside x) (λ d. storeOf d (now (slots .exit)) (now (counts .exit)) (now («row_homes» .entry)) (now («row_logicals» .entry)) (now («column_homes» .entry)) (now («column_logicals» .entry)) (now (marks .entry)) (now (starts .entry)) (now (entries .entry)) (now (words .exit))) ≡ resultOf (fullOf (storeOf (self .0) (now (slots .entry)) (now (counts .entry)) (now («row_homes» .entry)) (now («row_logicals» .entry)) (now («column_homes» .entry)) (now («column_logicals» .entry)) (now (marks .entry)) (now (starts .entry)) (now (entries .entry)) (now (words .entry))) []) (step (op.Freeze (record { c = c })) (fullOf (storeOf (self .0) (now (slots .entry)) (now (counts .entry)) (now («row_homes» .entry)) (now («row_logicals» .entry)) (now («column_homes» .entry)) (now («column_logicals» .entry)) (now (marks .entry)) (now (starts .entry)) (now (entries .entry)) (now (words .entry))) [])) ⌝ }
-    {
-        if !store_check::well_formed(
-            self.0,
-            slots,
-            counts,
-            row_homes,
-            row_logicals,
-            column_homes,
-            column_logicals,
-            marks,
-            starts,
-            entries,
-            words,
-        ) {
-            return Changed::No(refusals::DAMAGED);
-        }
-        self.after(freeze::hint_column_dense_and_frozen_in(
-            self.0,
-            slots,
-            counts,
-            row_homes,
-            row_logicals,
-            column_homes,
-            column_logicals,
-            marks,
-            starts,
-            entries,
-            words,
-            c,
-        ))
-    }
-
-    // RESIZE: the first h rows and w columns are kept, by logical number.
-    pub fn resize(
-        self,
-        slots: &mut [u16],
-        counts: &mut [u16],
-        row_homes: &mut [u32],
-        row_logicals: &mut [u32],
-        column_homes: &[u16],
-        column_logicals: &[u16],
-        marks: &[u8],
-        starts: &[u64],
-        entries: &[u32],
-        words: &mut [u64],
-        h: u32,
-        w: u32,
-    ) -> Changed
-        ensures { λ x. ⌜ changedTold (self .0) (inside x) (λ d. storeOf d (now (slots .exit)) (now (counts .exit)) (now («row_homes» .exit)) (now («row_logicals» .exit)) (now («column_homes» .entry)) (now («column_logicals» .entry)) (now (marks .entry)) (now (starts .entry)) (now (entries .entry)) (now (words .exit))) ≡ resultOf (fullOf (storeOf (self .0) (now (slots .entry)) (now (counts .entry)) (now («row_homes» .entry)) (now («row_logicals» .entry)) (now («column_homes» .entry)) (now («column_logicals» .entry)) (now (marks .entry)) (now (starts .entry)) (now (entries .entry)) (now (words .entry))) []) (step (op.Resize (record { h = h; w = w })) (fullOf (storeOf (self .0) (now (slots .entry)) (now (counts .entry)) (now («row_homes» .entry)) (now («row_logicals» .entry)) (now («column_homes» .entry)) (now («column_logicals» .entry)) (now (marks .entry)) (now (starts .entry)) (now (entries .entry)) (now (words .entry))) [])) ⌝ }
-    {
-        if !store_check::well_formed(
-            self.0,
-            slots,
-            counts,
-            row_homes,
-            row_logicals,
-            column_homes,
-            column_logicals,
-            marks,
-            starts,
-            entries,
-            words,
-        ) {
-            return Changed::No(refusals::DAMAGED);
-        }
-        self.after(resize::resize_in(
-            self.0,
-            slots,
-            counts,
-            row_homes,
-            row_logicals,
-            column_homes,
-            column_logicals,
-            marks,
-            starts,
-            entries,
-            words,
-            h,
-            w,
         ))
     }
 }

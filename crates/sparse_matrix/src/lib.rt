@@ -2,13 +2,16 @@
 use store_head::Numbers;
 ghost use mathlib.Core.Path.{_≡_};
 ghost use Rattle.store_head.specs.Lent.{headOf};
-ghost use Rattle.changes.specs.Changes.{emptyHead};
+ghost use Rattle.making.specs.Making.{emptyHead};
 ghost use Rattle.sparse_matrix.specs.Heads.{inside};
 
 mod alter;
 mod ask;
 mod checked;
-mod make;
+mod index;
+mod list;
+mod shape;
+mod words;
 
 pub use store_head::Listed;
 pub use store_head::Number;

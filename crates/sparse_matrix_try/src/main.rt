@@ -1,11 +1,11 @@
 // Asks a small store, index off and on, and then damages each kind of its numbers in turn: GET and SET then say `no 1`, and every number is as it was.
 // The store: 2 rows, 3 columns, the last in the tail. Row 0 is kept as home row 1 and row 1 as home row 0; columns 0, 1, 2 as home columns 2, 0, 1.
 // Row 0 holds one in column 0; row 1 in columns 0, 1 and 2.
+mod questions;
 mod show;
 
 use sparse_matrix::Changed;
 use sparse_matrix::Head;
-use sparse_matrix::Listed;
 use store_head::Numbers;
 
 // The numbers of the store.
@@ -18,308 +18,6 @@ fn head(on: bool) -> Head {
         made: 3,
         on: on,
     })
-}
-
-// GET of row 1, column 1.
-fn ask(
-    d: Head,
-    slots: &[u16],
-    counts: &[u16],
-    row_homes: &[u32],
-    row_logicals: &[u32],
-    column_homes: &[u16],
-    column_logicals: &[u16],
-    marks: &[u8],
-    starts: &[u64],
-    entries: &[u32],
-    words: &[u64],
-) {
-    show::told(d.get(
-        slots,
-        counts,
-        row_homes,
-        row_logicals,
-        column_homes,
-        column_logicals,
-        marks,
-        starts,
-        entries,
-        words,
-        1,
-        1,
-    ));
-}
-
-// Every number question and its refusals.
-fn numbers(
-    d: Head,
-    slots: &[u16],
-    counts: &[u16],
-    row_homes: &[u32],
-    row_logicals: &[u32],
-    column_homes: &[u16],
-    column_logicals: &[u16],
-    marks: &[u8],
-    starts: &[u64],
-    entries: &[u32],
-    words: &[u64],
-) {
-    show::sizes(d.size(
-        slots,
-        counts,
-        row_homes,
-        row_logicals,
-        column_homes,
-        column_logicals,
-        marks,
-        starts,
-        entries,
-        words,
-    ));
-    show::told(d.get(
-        slots,
-        counts,
-        row_homes,
-        row_logicals,
-        column_homes,
-        column_logicals,
-        marks,
-        starts,
-        entries,
-        words,
-        0,
-        0,
-    ));
-    show::told(d.get(
-        slots,
-        counts,
-        row_homes,
-        row_logicals,
-        column_homes,
-        column_logicals,
-        marks,
-        starts,
-        entries,
-        words,
-        0,
-        1,
-    ));
-    show::told(d.get(
-        slots,
-        counts,
-        row_homes,
-        row_logicals,
-        column_homes,
-        column_logicals,
-        marks,
-        starts,
-        entries,
-        words,
-        0,
-        2,
-    ));
-    show::told(d.get(
-        slots,
-        counts,
-        row_homes,
-        row_logicals,
-        column_homes,
-        column_logicals,
-        marks,
-        starts,
-        entries,
-        words,
-        1,
-        2,
-    ));
-    show::told(d.get(
-        slots,
-        counts,
-        row_homes,
-        row_logicals,
-        column_homes,
-        column_logicals,
-        marks,
-        starts,
-        entries,
-        words,
-        2,
-        3,
-    ));
-    show::told(d.get(
-        slots,
-        counts,
-        row_homes,
-        row_logicals,
-        column_homes,
-        column_logicals,
-        marks,
-        starts,
-        entries,
-        words,
-        1,
-        4294967295,
-    ));
-    show::told(d.count_ones(
-        slots,
-        counts,
-        row_homes,
-        row_logicals,
-        column_homes,
-        column_logicals,
-        marks,
-        starts,
-        entries,
-        words,
-        1,
-        0,
-        2,
-    ));
-    show::told(d.count_ones(
-        slots,
-        counts,
-        row_homes,
-        row_logicals,
-        column_homes,
-        column_logicals,
-        marks,
-        starts,
-        entries,
-        words,
-        1,
-        2,
-        1,
-    ));
-    show::told(d.count_ones(
-        slots,
-        counts,
-        row_homes,
-        row_logicals,
-        column_homes,
-        column_logicals,
-        marks,
-        starts,
-        entries,
-        words,
-        1,
-        0,
-        3,
-    ));
-    show::told(d.get_sub_row(
-        slots,
-        counts,
-        row_homes,
-        row_logicals,
-        column_homes,
-        column_logicals,
-        marks,
-        starts,
-        entries,
-        words,
-        1,
-        2,
-    ));
-    show::words(d.sub_row(
-        slots,
-        counts,
-        row_homes,
-        row_logicals,
-        column_homes,
-        column_logicals,
-        marks,
-        starts,
-        entries,
-        words,
-        1,
-        2,
-    ));
-    show::words(d.sub_row(
-        slots,
-        counts,
-        row_homes,
-        row_logicals,
-        column_homes,
-        column_logicals,
-        marks,
-        starts,
-        entries,
-        words,
-        1,
-        1,
-    ));
-}
-
-// ITER, TAILONES and COLONES over the answers.
-fn lists(
-    d: Head,
-    slots: &[u16],
-    counts: &[u16],
-    row_homes: &[u32],
-    row_logicals: &[u32],
-    column_homes: &[u16],
-    column_logicals: &[u16],
-    marks: &[u8],
-    starts: &[u64],
-    entries: &[u32],
-    words: &[u64],
-    answers: &mut [u32],
-) {
-    match d.get_row_iter(
-        slots,
-        counts,
-        row_homes,
-        row_logicals,
-        column_homes,
-        column_logicals,
-        marks,
-        starts,
-        entries,
-        words,
-        answers,
-        1,
-        0,
-        2,
-    ) {
-        Listed::Count(n) => show::list(answers, n),
-        Listed::No(k) => show::refused(k),
-    }
-    match d.query_non_zero_columns(
-        slots,
-        counts,
-        row_homes,
-        row_logicals,
-        column_homes,
-        column_logicals,
-        marks,
-        starts,
-        entries,
-        words,
-        answers,
-        1,
-        2,
-    ) {
-        Listed::Count(n) => show::list(answers, n),
-        Listed::No(k) => show::refused(k),
-    }
-    match d.get_ones_in_column(
-        slots,
-        counts,
-        row_homes,
-        row_logicals,
-        column_homes,
-        column_logicals,
-        marks,
-        starts,
-        entries,
-        words,
-        answers,
-        0,
-        0,
-        9,
-    ) {
-        Listed::Count(n) => show::list(answers, n),
-        Listed::No(k) => show::refused(k),
-    }
 }
 
 // SET of row 0, column 1 to one; then every number of the store.
@@ -374,7 +72,7 @@ fn off_told() {
     let short = [0u64; 3];
     let mut answers = [7u32; 3];
     let mut few = [7u32; 1];
-    numbers(
+    questions::numbers(
         head(false),
         &slots,
         &counts,
@@ -387,7 +85,7 @@ fn off_told() {
         &entries,
         &words,
     );
-    lists(
+    questions::lists(
         head(false),
         &slots,
         &counts,
@@ -401,7 +99,7 @@ fn off_told() {
         &words,
         &mut answers,
     );
-    lists(
+    questions::lists(
         head(false),
         &slots,
         &counts,
@@ -415,7 +113,7 @@ fn off_told() {
         &words,
         &mut few,
     );
-    ask(
+    questions::ask(
         head(false),
         &slots,
         &counts,
@@ -454,7 +152,7 @@ fn off_asked(
     let starts = [0u64, 0, 0, start];
     let entries = [0u32, 0, 0, entry];
     let mut words = [9223372036854775808u64, word];
-    ask(
+    questions::ask(
         d,
         &slots,
         &counts,
@@ -495,7 +193,7 @@ fn on_told(mark: u8) {
     let entries = [0u32, 0, 1, 0];
     let words = [9223372036854775808u64, 0];
     let mut answers = [7u32; 3];
-    lists(
+    questions::lists(
         head(true),
         &slots,
         &counts,
@@ -523,7 +221,7 @@ fn on_asked(mark: u8, start: u64, entry: u32) {
     let starts = [0u64, 1, start, 3];
     let entries = [0u32, 0, entry, 0];
     let mut words = [9223372036854775808u64, 0];
-    ask(
+    questions::ask(
         head(true),
         &slots,
         &counts,

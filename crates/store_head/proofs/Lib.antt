@@ -4,3 +4,5 @@ pub mod Refuses
 pub mod Calls
 pub mod Slices
 pub mod Parts
+pub mod QueryPlaces
+pub mod Clears

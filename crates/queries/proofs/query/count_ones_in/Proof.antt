@@ -2,7 +2,7 @@
 use native.Mathlib.Omega.{arith}
 use borrow.Author.Needs.{needs}
 use Rattle.queries.proofs.QueryNumbers.{count-row, count-side, count-is}
-use Rattle.queries.proofs.QueryPlaces.{in-slots, row-mapped, walk-low}
+use Rattle.store_head.proofs.QueryPlaces.{in-slots, row-mapped, walk-low}
 use Rattle.queries.proofs.query.count_ones_in.Statement.{statement}
 use Rattle.queries.proofs.query.count_ones_in.Tie as tie
 

@@ -1,7 +1,7 @@
 -- `queries::query::get_in` meets its contract. Assumes nothing.
 use borrow.Author.Needs.{needs}
 use Rattle.queries.proofs.QueryNumbers.{get-row, get-column, get-sparse, get-tail}
-use Rattle.queries.proofs.QueryPlaces.{column-low, column-in, in-slots, row-rises, cell-in}
+use Rattle.store_head.proofs.QueryPlaces.{column-low, column-in, in-slots, row-rises, cell-in}
 use Rattle.queries.proofs.query.get_in.Statement.{statement}
 use Rattle.queries.proofs.query.get_in.Tie as tie
 

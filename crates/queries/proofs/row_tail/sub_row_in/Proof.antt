@@ -2,7 +2,7 @@
 use mathlib.Core.Logic.{⊎-elim}
 use borrow.Author.Needs.{needs}
 use borrow.Author.Tests.{eqb-true, eqb-false, not-true, not-false}
-use Rattle.queries.proofs.QueryPlaces.{words-in}
+use Rattle.store_head.proofs.QueryPlaces.{words-in}
 use Rattle.queries.proofs.QueryWords.{none-row, none-side, part-are}
 use Rattle.queries.proofs.row_tail.sub_row_in.Statement.{statement}
 use Rattle.queries.proofs.row_tail.sub_row_in.Tie as tie

@@ -1,0 +1,2 @@
+pub mod QueryLists
+pub mod QueryColumn

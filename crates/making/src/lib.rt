@@ -1,0 +1,2 @@
+// MAKE, on any store.
+pub mod make;
