@@ -1,14 +1,11 @@
 -- What a run leaves and hands back: 01, "A run takes a list of operations as script records and writes the script program's lines to lent bytes".
 -- Assumes nothing.
-use mathlib.Core.Bool.{Bool, true, false}
 use mathlib.Core.List.{List, [], _∷_, _++_}
 use Prim.Native.Nat.{ℕ, zero, suc, _+_, _-_}
-use lib.Dec.{leb}
 use lib.ListN.{length}
 use lib.Seq.{sets}
-use Rattle.laws.specs.Plain.{pick}
 use Rattle.table.specs.Refusals.{Verdict, refused, done}
-use Rattle.table.specs.Run.{Reply, ok, nay, replyOf, kept, runs, run, perform, wrong, cut}
+use Rattle.table.specs.Run.{Reply, ok, nay, runs, run, cut}
 use Rattle.table.specs.Run as table
 use Rattle.model.specs.Store.{Full}
 use Rattle.model.specs.Check.{wellFormed}
@@ -22,7 +19,6 @@ use Rattle.store_head.specs.declared.Numbers.{Numbers}
 use Rattle.script.specs.declared.Stand.{Stand}
 use Rattle.script.specs.declared.Ran.{Ran}
 use Rattle.script.specs.declared.Ran.the-variants as ran
-use Rattle.script.specs.declared.Turn.{Turn}
 
 -- "One line per record": the lines of the replies, one after the other
 unfoldable pub linesOf : List Reply → List ℕ
@@ -69,38 +65,7 @@ leftBy s out f (done x a) = leftAt s 0 0 out x
 abbrev pub runOf : List ℕ → List ℕ → Full → Left
 runOf s out f = leftBy s out f (run (wellFormed (f .store)) step lineLong (length out) (recordsOf s) f)
 
--- ---- one record
-
--- what a record leaves over states S: whether it went, where the next one starts, how many line bytes are written, the state and the line bytes
-pub record Turned (S : Type 0) : Type 0 where
-  pub went : Bool
-  pub at : ℕ
-  pub used : ℕ
-  pub after : S
-  pub lines : List ℕ
-
--- .. where it comes to v: "It stops before the first record whose line would not fit whole, that record leaving no trace"
-abbrev pub turnBy : {S : Type 0} → Verdict S → ℕ → ℕ → ℕ → List ℕ → S → Turned S
-turnBy v next at used out s =
-    pick (leb (lineLong (replyOf v)) (length out - used))
-    (record { went = true; at = next; used = used + lineLong (replyOf v); after = kept v s; lines = sets out used (lineOf (replyOf v)) })
-    (record { went = false; at = at; used = used; after = s; lines = out })
-
--- .. whatever is read in a script of n bytes
-abbrev pub turnRead : Read → ℕ → ℕ → ℕ → List ℕ → Full → Turned Full
-turnRead (Whole r k) n at used out f = turnBy (step (r .op) f) k at used out f
-turnRead (Wrong k) n at used out f = turnBy (perform step wrong f) k at used out f
-turnRead Cut n at used out f = turnBy (perform step cut f) n at used out f
-turnRead End n at used out f = record { went = false; at = at; used = used; after = f; lines = out }
-
--- the record at a position of the script s
-abbrev pub turnOf : List ℕ → ℕ → ℕ → List ℕ → Full → Turned Full
-turnOf s at used out f = turnRead (readAt s at) (length s) at used out f
-
 -- ---- what the code hands back, in these words
-abbrev pub turnTold : {S : Type 0} → Turn → (Numbers → S) → List ℕ → Turned S
-turnTold t left lines = record { went = t .went; at = t .at; used = t .used; after = left (t .head); lines = lines }
-
 abbrev pub standTold : Stand → (Numbers → Full) → List ℕ → Left
 standTold x left lines = stands (x .done) (x .written) (left (x .head .0)) lines
 

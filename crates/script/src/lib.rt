@@ -9,10 +9,6 @@ ghost use Rattle.model.specs.WellFormed.{WellFormed};
 ghost use Rattle.store_head.specs.Lent.{storeOf, fullOf};
 ghost use Rattle.script.specs.Left.{resumed, standTold, ranTold, runOf, doneIn, writtenIn};
 
-mod measure;
-mod one_record;
-mod tell;
-
 // Where a run stands: the head, how many record bytes are done, how many line bytes are written.
 pub struct Stand {
     pub head: Head,
@@ -24,14 +20,6 @@ pub struct Stand {
 pub enum Ran {
     Done(Stand),
     No(u32),
-}
-
-// What one record leaves: whether its line fits, where the next record starts, how many line bytes are written.
-pub struct Turn {
-    pub head: Numbers,
-    pub at: usize,
-    pub used: usize,
-    pub went: bool,
 }
 
 // The run over a store that is known to be well-formed.
@@ -59,7 +47,7 @@ fn run_on(
     let mut done = 0;
     let mut written = 0;
     loop {
-        let t = one_record::turn_at(
+        let t = turns::one_record::turn_at(
             h,
             slots,
             counts,

@@ -1,0 +1,4 @@
+pub mod Measuring
+pub mod Longest
+pub mod Saying
+pub mod Turned
