@@ -1,3 +1,4 @@
+#![tactic(auto)]
 // Tries the index at its edges. One line for each trial: its name, and the numbers that were answered.
 mod builds;
 mod checks;

@@ -1,3 +1,4 @@
+#![tactic(auto)]
 // The script program (01, "The script program"): records on standard input, a line for each on standard output. What matters is in the library: here are
 // the buffers that are lent, and reading and writing in pieces.
 mod pieces;

@@ -1,3 +1,4 @@
+#![tactic(auto)]
 // The store for hosts in C and Rust: every call as numbers, plain structs and slices. Each function is total and demands nothing of its caller.
 mod alter;
 mod ask;

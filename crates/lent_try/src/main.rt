@@ -1,3 +1,4 @@
+#![tactic(auto)]
 // Tries `lent` at its edges and prints a line for each trial: the four numbers that a clear leaves, or 1 for yes and 0 for no.
 fn wide_u8(x: u8) -> u64 {
     x as u64

@@ -1,3 +1,4 @@
+#![tactic(auto)]
 // Writes lines at their edges, each from place 3 on over 96 dots. For each trial how long the line is, the position after it, and the bytes up to two places
 // past it: three dots, the line and two dots.
 ghost use Rattle.std.specs.Prelude.{◌≤◌, length};

@@ -1,2 +1,3 @@
+#![tactic(auto)]
 // MAKE, on any store.
 pub mod make;

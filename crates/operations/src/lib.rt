@@ -1,3 +1,4 @@
+#![tactic(auto)]
 // One call for any of the sixteen operations: `call` checks the store, `apply` is its twin for a store that is known to be well-formed.
 ghost use Rattle.std.specs.Prelude.{◌≡◌, false, ◌||◌};
 ghost use Rattle.table.specs.Room.{kind, is_make};

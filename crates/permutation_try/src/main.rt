@@ -1,3 +1,4 @@
+#![tactic(auto)]
 // Tries `permutation` at its edges and prints a line for each trial: a number, both maps of four places, or 1 for yes and 0 for no.
 ghost use Rattle.std.specs.Prelude.{◌≡◌};
 

@@ -1,3 +1,4 @@
+#![tactic(auto)]
 // Reads scripts at their edges. For each script its name and a line for each record: its script position, its kind with its places, and the position after
 // it; or `wrong` with that position, or `cut`.
 ghost use Rattle.std.specs.Prelude.{◌≤◌, ◌<◌, length};

@@ -1,3 +1,4 @@
+#![tactic(auto)]
 // Runs a script over a store with less room than the script program lends: 4 rows, 80 columns, 12 slot entries, 5 index entries, 6 tail words, 2 answer
 // places. So 12, 13, 14 and 15 come early, and what RESIZE frees is used again.
 mod show;

@@ -1,3 +1,4 @@
+#![tactic(auto)]
 // The run: a list of operations as script records over a store, a line for each to lent bytes. It checks the store once and keeps it well-formed by proof.
 ghost use Rattle.std.specs.Prelude.{◌≡◌, ◌≤◌, length};
 ghost use Rattle.model.specs.WellFormed.{WellFormed};

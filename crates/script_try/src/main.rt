@@ -1,3 +1,4 @@
+#![tactic(auto)]
 // Runs the script on standard input by the library's run, cut at every byte, and again with line bytes for every length: each time over a fresh 0 by 0
 // store. After the lines of a run comes a line of this program: how many bytes of the script there were, or how much room for lines, and what the run
 // answered.

@@ -1,3 +1,4 @@
+#![tactic(auto)]
 // The sparse matrix, after src/sparse_matrix.rs: a head by value, and ten lent slices beside it.
 ghost use Rattle.std.specs.Prelude.{◌≡◌};
 ghost use Rattle.store_head.specs.Lent.{head_of};

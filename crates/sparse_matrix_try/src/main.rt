@@ -1,3 +1,4 @@
+#![tactic(auto)]
 // Asks a small store, index off and on, and then damages each kind of its numbers in turn: GET and SET then say `no 1`, and every number is as it was.
 // The store: 2 rows, 3 columns, the last in the tail. Row 0 is kept as home row 1 and row 1 as home row 0; columns 0, 1, 2 as home columns 2, 0, 1.
 // Row 0 holds one in column 0; row 1 in columns 0, 1 and 2.

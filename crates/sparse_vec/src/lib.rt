@@ -1,3 +1,4 @@
+#![tactic(auto)]
 // One sparse row, after src/sparse_vec.rs: the home columns that hold one, strictly rising, in a stretch of lent numbers.
 mod add;
 mod change;

@@ -1,3 +1,4 @@
+#![tactic(auto)]
 // Tries the rows of sparse_vec at their edges, and prints what each call answers and leaves.
 ghost use Rattle.std.specs.Prelude.{◌≡◌, true};
 ghost use Rattle.sparse_vec.specs.Calls.{CanRetain};

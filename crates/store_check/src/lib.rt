@@ -1,3 +1,4 @@
+#![tactic(auto)]
 // The store check: whether a head's numbers and the ten lent slices are a well-formed store (01, "Well-formed means all of this"). Any numbers, any lengths.
 ghost use Rattle.std.specs.Prelude.{◌≡◌};
 ghost use Rattle.model.specs.Check.{well_formed};

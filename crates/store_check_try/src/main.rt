@@ -1,3 +1,4 @@
+#![tactic(auto)]
 // Tries the store check on a small store, right and damaged at one place after the other. A line for each buffer: 1 for well-formed, 0 for not.
 mod damage;
 mod head;

@@ -1,3 +1,4 @@
+#![tactic(auto)]
 // What the store's functions hand each other: a head's numbers, answers, refusal numbers, and places in the lent slices.
 pub mod places;
 pub mod refusals;

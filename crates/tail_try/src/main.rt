@@ -1,3 +1,4 @@
+#![tactic(auto)]
 // Tries the functions on tail words at the edges, on six words and at most 128 columns: a line for each trial.
 mod safe;
 mod show;

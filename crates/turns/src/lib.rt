@@ -1,3 +1,4 @@
+#![tactic(auto)]
 // One record of a run: what it asks for is done and its line written, or, where the line does not fit, nothing.
 use store_head::Numbers;
 

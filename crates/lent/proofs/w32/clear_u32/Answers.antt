@@ -1,0 +1,14 @@
+-- `lent::w32::clear_u32` meets its contract. Assumes nothing.
+use Prim.Native.Nat.{◌-◌}
+use native.Mathlib.Omega.{arith}
+use Rattle.lent.proofs.Loops.{clear-start, clear-more, clear-done}
+use Rattle.lent.proofs.w32.clear_u32.Goals as goal
+
+pub loop-i-init : goal.loop-i-init
+loop-i-init c = clear-start _ _ _ c.requires
+
+pub loop-i-preserved : goal.loop-i-preserved
+loop-i-preserved c = clear-more _ _ _ _ _ c.loop-i.invariant (omega arith)
+
+pub returns : goal.returns
+returns c = clear-done _ _ _ _ _ c.loop-i.invariant (omega arith)

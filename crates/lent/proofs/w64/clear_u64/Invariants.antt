@@ -1,0 +1,10 @@
+-- `lent::w64::clear_u64` meets its contract. Assumes nothing.
+use Prim.Native.Nat.{◌-◌}
+use Rattle.lent.proofs.Loops.{Clearing}
+use Rattle.lent.proofs.w64.clear_u64.Given as goal
+
+abbrev pub invariant-loop-i : goal.invariant-loop-i
+invariant-loop-i l = Clearing l.initial.s l.s l.from l.to l.i
+
+abbrev pub decreases-loop-i : goal.decreases-loop-i
+decreases-loop-i l = l.to - l.i

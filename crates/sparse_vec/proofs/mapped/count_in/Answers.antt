@@ -1,0 +1,25 @@
+-- `sparse_vec::mapped::count_in` meets its contract. Assumes nothing.
+use Rattle.sparse_vec.proofs.Walking.{seen_start, seen-in, seen-out, seen_all}
+use mathlib.Core.Logic.{inl, inr, ⊎_elim}
+use borrow.Author.Tests.{ltb-true, ltb-false}
+use Prim.Native.Nat.{◌-◌}
+use native.Mathlib.Omega.{arith}
+use Rattle.sparse_vec.proofs.mapped.count_in.Goals as goal
+
+pub loop-i-init : goal.loop-i-init
+loop-i-init c = seen_start _ _ _ _
+
+pub offset_bounds-logical-z : goal.offset_bounds-logical-z
+offset_bounds-logical-z c = omega (arith, c.requires.low c.loop-i.i (omega arith), c.place-z.ensures)
+
+pub bounds-logical-z : goal.bounds-logical-z
+bounds-logical-z c = omega (arith, c.requires.low c.loop-i.i (omega arith), c.place-z.ensures)
+
+pub loop-i-preserved : goal.loop-i-preserved
+loop-i-preserved c = let z = c.place-z.ensures in let k = c.number-c.ensures in ⊎_elim
+    (λ v. seen-in _ _ _ _ _ _ c.loop-i.invariant _ _ (omega arith) z k (omega arith) (omega (arith, ltb-true)) _ v.2)
+    (λ v. seen-out _ _ _ _ _ _ c.loop-i.invariant _ _ (omega arith) z k _ v.1 (⊎_elim (λ u. inr (omega (arith, ltb-false))) (λ u. inl (omega arith)) v.0.came))
+    c.if-a-c.branch
+
+pub returns : goal.returns
+returns c = seen_all _ _ _ _ _ _ c.loop-i.invariant (omega arith)

@@ -1,0 +1,28 @@
+-- `sparse_vec::mapped::walk` meets its contract. Assumes nothing.
+use Rattle.sparse_vec.proofs.Walking.{listing_start, listing-in, listing-out, listing-room, listing-done}
+use mathlib.Core.Logic.{inl, inr, ⊎_elim}
+use borrow.Author.Tests.{ltb-true, ltb-false}
+use Prim.Native.Nat.{◌-◌}
+use native.Mathlib.Omega.{arith}
+use Rattle.sparse_vec.proofs.mapped.walk.Goals as goal
+
+pub loop-i-init : goal.loop-i-init
+loop-i-init c = listing_start _ _ _ _ _ c.requires
+
+pub offset_bounds-logical-z : goal.offset_bounds-logical-z
+offset_bounds-logical-z c = omega (arith, c.requires.mapped.low c.loop-i.i (omega arith), c.place-z.ensures)
+
+pub bounds-logical-z : goal.bounds-logical-z
+bounds-logical-z c = omega (arith, c.requires.mapped.low c.loop-i.i (omega arith), c.place-z.ensures)
+
+pub bounds-answers-n : goal.bounds-answers-n
+bounds-answers-n c = listing-room _ _ _ _ _ c.requires _ _ _ c.loop-i.invariant _ _ (omega arith) c.place-z.ensures c.number-c.ensures (omega arith) (omega (arith, ltb-true))
+
+pub loop-i-preserved : goal.loop-i-preserved
+loop-i-preserved c = let p = c.requires in let z = c.place-z.ensures in let k = c.number-c.ensures in ⊎_elim
+    (λ v. listing-in _ _ _ _ _ p _ _ _ c.loop-i.invariant _ _ (omega arith) z k _ _ v.2 v.3 (omega arith) (omega (arith, ltb-true)))
+    (λ v. listing-out _ _ _ _ _ p _ _ _ c.loop-i.invariant _ _ (omega arith) z k _ _ v.1 v.2 (⊎_elim (λ u. inr (omega (arith, ltb-false))) (λ u. inl (omega arith)) v.0.came))
+    c.if-a-c.branch
+
+pub returns : goal.returns
+returns c = listing-done _ _ _ _ _ c.requires _ _ _ c.loop-i.invariant (omega arith)

@@ -1,0 +1,11 @@
+-- `sparse_vec::run::bring` meets its contract. Assumes nothing.
+use Rattle.sparse_vec.proofs.Filled.{Filled}
+use Rattle.laws.specs.Parts.{part}
+use Prim.Native.Nat.{◌-◌}
+use Rattle.sparse_vec.proofs.run.bring.Given as goal
+
+abbrev pub invariant-loop-j : goal.invariant-loop-j
+invariant-loop-j l = Filled l.initial.slots l.slots l.to l.k (part l.initial.slots l.from l.k) 0 l.j
+
+abbrev pub decreases-loop-j : goal.decreases-loop-j
+decreases-loop-j l = l.k - l.j
