@@ -1,5 +1,4 @@
 -- `lent::w16::rest_zero_u16` meets its contract. Assumes nothing.
-use Prim.Native.Nat.{◌-◌}
 use native.Mathlib.Omega.{arith}
 use Rattle.lent.proofs.Loops.{scan-start, scan-more, scan-done}
 use Rattle.lent.proofs.w16.rest_zero_u16.Goals as goal

@@ -1,5 +1,4 @@
 -- `lent::w32::clear_u32` meets its contract. Assumes nothing.
-use Prim.Native.Nat.{◌-◌}
 use native.Mathlib.Omega.{arith}
 use Rattle.lent.proofs.Loops.{clear-start, clear-more, clear-done}
 use Rattle.lent.proofs.w32.clear_u32.Goals as goal

@@ -1,5 +1,4 @@
 -- `lent::w64::rest_zero_u64` meets its contract. Assumes nothing.
-use Prim.Native.Nat.{◌-◌}
 use native.Mathlib.Omega.{arith}
 use Rattle.lent.proofs.Loops.{scan-start, scan-more, scan-done}
 use Rattle.lent.proofs.w64.rest_zero_u64.Goals as goal

@@ -1,5 +1,4 @@
 -- `lent::w8::clear_u8` meets its contract. Assumes nothing.
-use Prim.Native.Nat.{◌-◌}
 use native.Mathlib.Omega.{arith}
 use Rattle.lent.proofs.Loops.{clear-start, clear-more, clear-done}
 use Rattle.lent.proofs.w8.clear_u8.Goals as goal

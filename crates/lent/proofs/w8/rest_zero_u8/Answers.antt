@@ -1,5 +1,4 @@
 -- `lent::w8::rest_zero_u8` meets its contract. Assumes nothing.
-use Prim.Native.Nat.{◌-◌}
 use native.Mathlib.Omega.{arith}
 use Rattle.lent.proofs.Loops.{scan-start, scan-more, scan-done}
 use Rattle.lent.proofs.w8.rest_zero_u8.Goals as goal
