@@ -18,15 +18,6 @@ overflow_add-n c = let h = c.merge_forward-m.ensures.so_far in let g = c.type_in
 pub overflow_add-n-2 : goal.overflow_add-n-2
 overflow_add-n-2 c = let h = c.merge_forward-m.ensures.so_far in let g = c.type_inv.slots in omega (arith, h.n-le, h.i-le, h.j-le, c.requires.fit-d)
 
-pub overflow_add-d-6 : goal.overflow_add-d-6
-overflow_add-d-6 c = let h = c.merge_forward-m.ensures.so_far in let g = c.type_inv.slots in omega (arith, h.n-le, h.i-le, h.j-le, c.requires.fit-d)
-
-pub overflow_add-d-7 : goal.overflow_add-d-7
-overflow_add-d-7 c = let h = c.merge_forward-m.ensures.so_far in let g = c.type_inv.slots in omega (arith, h.n-le, h.i-le, h.j-le, c.requires.fit-d)
-
-pub overflow_add-d-8 : goal.overflow_add-d-8
-overflow_add-d-8 c = let h = c.merge_forward-m.ensures.so_far in let g = c.type_inv.slots in omega (arith, h.n-le, h.i-le, h.j-le, c.requires.fit-d)
-
 pub clear-requires : goal.clear-requires
 clear-requires c = let p = moved-can _ _ _ _ _ c.requires _ c.move_right.ensures in let e = c.merge_forward-m.ensures in let h = e.so_far in
     merged-clear _ _ _ _ _ p _ _ _ _ e _ c.bring.ensures _ c.bring-2.ensures _ refl

@@ -8,7 +8,7 @@ pub returns-then-row-eq0 : goal.returns-then-row-eq0
 returns-then-row-eq0 c = none-there _ _ _ refl c.if-row-eq0.true
 
 pub last_up_to-i-requires : goal.last_up_to-i-requires
-last_up_to-i-requires c = (c.requires, within_all _ _ _ refl c.if-row-eq0.false)
+last_up_to-i-requires c = record { rising = c.requires; within = within_all _ _ _ refl c.if-row-eq0.false }
 
 pub returns-then-y-x : goal.returns-then-y-x
 returns-then-y-x c = end-at _ _ _ c.requires c.last_up_to-i.ensures c.if-y-x.true

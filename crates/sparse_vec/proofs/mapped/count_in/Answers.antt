@@ -4,6 +4,7 @@ use mathlib.Core.Logic.{inl, inr, ⊎_elim}
 use borrow.Author.Tests.{ltb-true, ltb-false}
 use Prim.Native.Nat.{◌-◌}
 use native.Mathlib.Omega.{arith}
+use Rattle.sparse_vec.proofs.mapped.count_in.Goals.{then-a-c+then-c-b, else-a-c, else-a-c-via-then-a-c+else-c-b, else-a-c-via-else-a-c}
 use Rattle.sparse_vec.proofs.mapped.count_in.Goals as goal
 
 pub loop-i-init : goal.loop-i-init
@@ -16,10 +17,11 @@ pub bounds-logical-z : goal.bounds-logical-z
 bounds-logical-z c = omega (arith, c.requires.low c.loop-i.i (omega arith), c.place-z.ensures)
 
 pub loop-i-preserved : goal.loop-i-preserved
-loop-i-preserved c = let z = c.place-z.ensures in let k = c.number-c.ensures in ⊎_elim
-    (λ v. seen-in _ _ _ _ _ _ c.loop-i.invariant _ _ (omega arith) z k (omega arith) (omega (arith, ltb-true)) _ v.2)
-    (λ v. seen-out _ _ _ _ _ _ c.loop-i.invariant _ _ (omega arith) z k _ v.1 (⊎_elim (λ u. inr (omega (arith, ltb-false))) (λ u. inl (omega arith)) v.0.came))
-    c.if-a-c.branch
+loop-i-preserved c = let z = c.place-z.ensures in let k = c.number-c.ensures in elim c.if-a-c.branch [
+    then-a-c+then-c-b v ↦ seen-in _ _ _ _ _ _ c.loop-i.invariant _ _ (omega arith) z k (omega arith) (omega (arith, ltb-true)) _ v.n-is
+    | else-a-c v ↦ seen-out _ _ _ _ _ _ c.loop-i.invariant _ _ (omega arith) z k _ v.n-is (elim v.else-a-c.branch [
+        else-a-c-via-then-a-c+else-c-b u ↦ inr (omega (arith, ltb-false))
+        | else-a-c-via-else-a-c u ↦ inl (omega arith) ]) ]
 
 pub returns : goal.returns
 returns c = seen_all _ _ _ _ _ _ c.loop-i.invariant (omega arith)

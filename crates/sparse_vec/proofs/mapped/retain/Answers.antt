@@ -5,6 +5,7 @@ use mathlib.Core.Path.{sym, ap, ◌∙◌}
 use lib.ListN.{set}
 use Prim.Native.Nat.{ℕ, ◌+◌, ◌-◌}
 use native.Mathlib.Omega.{arith}
+use Rattle.sparse_vec.proofs.mapped.retain.Goals.{then-number-w, else-number-w}
 use Rattle.sparse_vec.proofs.mapped.retain.Goals as goal
 
 pub loop-i-init : goal.loop-i-init
@@ -17,10 +18,9 @@ pub bounds-logical-z : goal.bounds-logical-z
 bounds-logical-z c = keeping-mapped _ _ _ _ _ _ c.requires _ _ _ c.loop-i.invariant _ (omega arith) c.place-z.ensures
 
 pub loop-i-preserved : goal.loop-i-preserved
-loop-i-preserved c = let p = c.requires in let z = c.place-z.ensures in let k = c.number.ensures in ⊎_elim
-    (λ v. keeping-in _ _ _ _ _ _ p _ _ _ c.loop-i.invariant _ _ (omega arith) z k (omega arith) _ _ (v.1 ∙ ap (λ (y : ℕ). set c.loop-i.slots (c.args.at + c.loop-i.n) y) (sym z)) v.2)
-    (λ v. keeping-out _ _ _ _ _ _ p _ _ _ c.loop-i.invariant _ _ (omega arith) z k _ _ v.1 v.2 (omega arith))
-    c.if-number-w.branch
+loop-i-preserved c = let p = c.requires in let z = c.place-z.ensures in let k = c.number.ensures in elim c.if-number-w.branch [
+    then-number-w v ↦ keeping-in _ _ _ _ _ _ p _ _ _ c.loop-i.invariant _ _ (omega arith) z k (omega arith) _ _ (v.slots-is ∙ ap (λ (y : ℕ). set c.loop-i.slots (c.args.at + c.loop-i.n) y) (sym z)) v.n-is
+    | else-number-w v ↦ keeping-out _ _ _ _ _ _ p _ _ _ c.loop-i.invariant _ _ (omega arith) z k _ _ v.slots-is v.n-is (omega arith) ]
 
 pub clear-requires : goal.clear-requires
 clear-requires c = keeping-clear _ _ _ _ _ _ c.requires _ _ _ c.loop-i.invariant

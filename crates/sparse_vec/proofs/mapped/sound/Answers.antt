@@ -4,16 +4,16 @@ use mathlib.Core.Logic.{⊎_elim}
 use borrow.Author.Tests.{leb-true, leb-false}
 use Prim.Native.Nat.{◌-◌}
 use native.Mathlib.Omega.{arith}
+use Rattle.sparse_vec.proofs.mapped.sound.Goals.{then-z-lo-via-then-z-lo, then-z-lo-via-else-z-lo+then-logical-z}
 use Rattle.sparse_vec.proofs.mapped.sound.Goals as goal
 
 pub loop-i-init : goal.loop-i-init
 loop-i-init c = tested-start _ _ _
 
 pub returns-then-z-lo : goal.returns-then-z-lo
-returns-then-z-lo c = let z = c.place-z.ensures in ⊎_elim
-    (λ v. tested_low _ _ _ _ _ c.loop-i.invariant _ (omega arith) z (omega arith))
-    (λ v. tested-out _ _ _ _ _ c.loop-i.invariant _ (omega arith) z (omega (arith, leb-true)))
-    c.then-z-lo.branch
+returns-then-z-lo c = let z = c.place-z.ensures in elim c.then-z-lo.branch [
+    then-z-lo-via-then-z-lo v ↦ tested_low _ _ _ _ _ c.loop-i.invariant _ (omega arith) z (omega arith)
+    | then-z-lo-via-else-z-lo+then-logical-z v ↦ tested-out _ _ _ _ _ c.loop-i.invariant _ (omega arith) z (omega (arith, leb-true)) ]
 
 pub bounds-logical-z : goal.bounds-logical-z
 bounds-logical-z c = omega (arith, leb-false)

@@ -4,6 +4,7 @@ use mathlib.Core.Logic.{inl, inr, ⊎_elim}
 use borrow.Author.Tests.{ltb-true, ltb-false}
 use Prim.Native.Nat.{◌-◌}
 use native.Mathlib.Omega.{arith}
+use Rattle.sparse_vec.proofs.mapped.walk.Goals.{then-a-c+then-c-b, else-a-c, else-a-c-via-then-a-c+else-c-b, else-a-c-via-else-a-c}
 use Rattle.sparse_vec.proofs.mapped.walk.Goals as goal
 
 pub loop-i-init : goal.loop-i-init
@@ -19,10 +20,11 @@ pub bounds-answers-n : goal.bounds-answers-n
 bounds-answers-n c = listing-room _ _ _ _ _ c.requires _ _ _ c.loop-i.invariant _ _ (omega arith) c.place-z.ensures c.number-c.ensures (omega arith) (omega (arith, ltb-true))
 
 pub loop-i-preserved : goal.loop-i-preserved
-loop-i-preserved c = let p = c.requires in let z = c.place-z.ensures in let k = c.number-c.ensures in ⊎_elim
-    (λ v. listing-in _ _ _ _ _ p _ _ _ c.loop-i.invariant _ _ (omega arith) z k _ _ v.2 v.3 (omega arith) (omega (arith, ltb-true)))
-    (λ v. listing-out _ _ _ _ _ p _ _ _ c.loop-i.invariant _ _ (omega arith) z k _ _ v.1 v.2 (⊎_elim (λ u. inr (omega (arith, ltb-false))) (λ u. inl (omega arith)) v.0.came))
-    c.if-a-c.branch
+loop-i-preserved c = let p = c.requires in let z = c.place-z.ensures in let k = c.number-c.ensures in elim c.if-a-c.branch [
+    then-a-c+then-c-b v ↦ listing-in _ _ _ _ _ p _ _ _ c.loop-i.invariant _ _ (omega arith) z k _ _ v.answers-is v.n-is (omega arith) (omega (arith, ltb-true))
+    | else-a-c v ↦ listing-out _ _ _ _ _ p _ _ _ c.loop-i.invariant _ _ (omega arith) z k _ _ v.answers-is v.n-is (elim v.else-a-c.branch [
+        else-a-c-via-then-a-c+else-c-b u ↦ inr (omega (arith, ltb-false))
+        | else-a-c-via-else-a-c u ↦ inl (omega arith) ]) ]
 
 pub returns : goal.returns
 returns c = listing-done _ _ _ _ _ c.requires _ _ _ c.loop-i.invariant (omega arith)

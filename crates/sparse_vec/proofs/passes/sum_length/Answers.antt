@@ -7,6 +7,7 @@ use Rattle.sparse_vec.proofs.Steps.{step_fits, step_falls, counted_start, counte
 use Prim.Native.Nat.{◌+◌, ◌-◌}
 use borrow.Author.Tests.{ltb-true, ltb-false}
 use native.Mathlib.Omega.{arith}
+use Rattle.sparse_vec.proofs.passes.sum_length.Goals.{then-loop-i-test+else-j-sl, else-loop-i-test}
 use Rattle.sparse_vec.proofs.passes.sum_length.Goals as goal
 
 pub loop-i-init : goal.loop-i-init
@@ -36,4 +37,4 @@ loop-i-preserved c = counted-more _ _ _ _ _ c.requires.0 c.requires.1 _ _ _ c.lo
 
 pub returns : goal.returns
 returns c = counted-done _ _ _ _ _ c.requires.0 c.requires.1 _ _ _ c.loop-i.invariant
-    (⊎_elim (λ w. inr (omega (arith, ltb-false))) (λ w. inl (omega arith)) c.loop-i-test.branch)
+    (elim c.loop-i-test.branch [ then-loop-i-test+else-j-sl w ↦ inr (omega (arith, ltb-false)) | else-loop-i-test w ↦ inl (omega arith) ])

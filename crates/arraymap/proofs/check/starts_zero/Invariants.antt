@@ -1,0 +1,12 @@
+-- `arraymap::check::starts_zero` meets its contract. Assumes nothing.
+use Prim.Native.Nat.{◌-◌, ◌≤◌}
+use lib.ListN.{length}
+use Rattle.laws.specs.Tests.{zero_at}
+use Rattle.laws.proofs.Passes.{Passed}
+use Rattle.arraymap.proofs.check.starts_zero.Given as goal
+
+abbrev pub invariant-loop-i : goal.invariant-loop-i
+invariant-loop-i l = (l.from ≤ l.i) × Passed (zero_at l.starts l.from) (length l.starts) l.i
+
+abbrev pub decreases-loop-i : goal.decreases-loop-i
+decreases-loop-i l = length l.starts - l.i
