@@ -18,7 +18,7 @@ pub get-list-requires : goal.get-list-requires
 get-list-requires c = span-list _ _ _ c.requires.lists.span _ (omega arith)
 
 pub list_exact-requires : goal.list_exact-requires
-list_exact-requires c = (c.requires.rows, list-below _ _ _ _ c.get-list.ensures _ _ c.requires.lists (omega arith))
+list_exact-requires c = record { rows = c.requires.rows; below = list-below _ _ _ _ c.get-list.ensures _ _ c.requires.lists (omega arith) }
 
 pub returns-then-not-list_exact : goal.returns-then-not-list_exact
 returns-then-not-list_exact c = passed-fails _ _ _ c.loop-z.invariant (omega arith) (exact-no _ _ _ _ _ _ _ _ c.get-list.ensures _ c.list_exact.ensures _ c.from_u16.ensures c.if-edge-from_u16.false c.if-marks-z-ne0.false c.if-not-list_exact.true)

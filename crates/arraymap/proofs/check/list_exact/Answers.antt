@@ -9,10 +9,10 @@ pub loop-j-init : goal.loop-j-init
 loop-j-init c = passed_start _ _
 
 pub row-row-requires : goal.row-row-requires
-row-row-requires c = record { rows = c.requires.0; here = below_at _ _ _ c.from_u32-y.ensures _ c.requires.1 (omega arith) }
+row-row-requires c = record { rows = c.requires.rows; here = below_at _ _ _ c.from_u32-y.ensures _ c.requires.below (omega arith) }
 
 pub row_holds-requires : goal.row_holds-requires
-row_holds-requires c = row-rising _ _ _ _ _ c.requires.0 _ (below_at _ _ _ c.from_u32-y.ensures _ c.requires.1 (omega arith)) _ c.row-row.ensures
+row_holds-requires c = row-rising _ _ _ _ _ c.requires.rows _ (below_at _ _ _ c.from_u32-y.ensures _ c.requires.below (omega arith)) _ c.row-row.ensures
 
 pub returns-then-not-row_holds : goal.returns-then-not-row_holds
 returns-then-not-row_holds c = passed-fails _ _ _ c.loop-j.invariant (omega arith) (holds-is _ _ _ c.from_u32-y.ensures _ _ _ _ _ c.row-row.ensures c.row_holds.ensures c.if-not-row_holds.true)

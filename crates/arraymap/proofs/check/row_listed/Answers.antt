@@ -9,10 +9,10 @@ pub loop-j-init : goal.loop-j-init
 loop-j-init c = passed_start _ _
 
 pub get-list-requires : goal.get-list-requires
-get-list-requires c = span-list _ _ _ c.requires.0.span _ (column-in _ _ _ _ c.requires.1 (omega arith) c.from_u16-z.ensures)
+get-list-requires c = span-list _ _ _ c.requires.lists.span _ (column-in _ _ _ _ c.requires.row_ok (omega arith) c.from_u16-z.ensures)
 
 pub list_holds-requires : goal.list_holds-requires
-list_holds-requires c = list-rising _ _ _ _ c.get-list.ensures _ _ c.requires.0 (column-in _ _ _ _ c.requires.1 (omega arith) c.from_u16-z.ensures)
+list_holds-requires c = list-rising _ _ _ _ c.get-list.ensures _ _ c.requires.lists (column-in _ _ _ _ c.requires.row_ok (omega arith) c.from_u16-z.ensures)
 
 pub returns-then-not-list_holds : goal.returns-then-not-list_holds
 returns-then-not-list_holds c = passed-fails _ _ _ c.loop-j.invariant (omega arith) (listed-is _ _ _ _ c.get-list.ensures _ _ _ _ _ c.from_u16-z.ensures c.list_holds.ensures c.if-not-list_holds.true)
