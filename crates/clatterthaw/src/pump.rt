@@ -5,7 +5,7 @@ use script::{Ran, Stand};
 use sparse_matrix::Head;
 
 // The head afterwards, and whether to go on: more is to come, and standard output took the lines.
-#[derive(Drop)]
+#[derive(Clone, Copy)]
 pub struct Pumped {
     pub head: Head,
     pub on: bool,

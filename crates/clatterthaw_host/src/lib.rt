@@ -7,7 +7,7 @@ mod run;
 
 // A head, as a host keeps it between calls. `on` is 0 or 1; with any other number the store is damaged.
 #[repr(C)]
-#[derive(Drop)]
+#[derive(Clone, Copy)]
 pub struct PlainHead {
     pub h: u32,
     pub w: u32,
@@ -19,7 +19,7 @@ pub struct PlainHead {
 
 // What a change leaves: the new head and 0, or the head as it was and the number of the refusal.
 #[repr(C)]
-#[derive(Drop)]
+#[derive(Clone, Copy)]
 pub struct PlainChanged {
     pub head: PlainHead,
     pub no: u32,
@@ -27,7 +27,7 @@ pub struct PlainChanged {
 
 // A number and 0, or the number of the refusal: GET, COUNT.
 #[repr(C)]
-#[derive(Drop)]
+#[derive(Clone, Copy)]
 pub struct PlainNumber {
     pub no: u32,
     pub value: u32,
@@ -35,7 +35,7 @@ pub struct PlainNumber {
 
 // Height, width, tail and 0, or the number of the refusal: SIZE.
 #[repr(C)]
-#[derive(Drop)]
+#[derive(Clone, Copy)]
 pub struct PlainSize {
     pub no: u32,
     pub h: u32,
@@ -45,7 +45,7 @@ pub struct PlainSize {
 
 // How many of the first answer places hold the list, and 0, or the number of the refusal: ITER, TAILONES, COLONES.
 #[repr(C)]
-#[derive(Drop)]
+#[derive(Clone, Copy)]
 pub struct PlainList {
     pub no: u32,
     pub count: u32,
@@ -53,7 +53,7 @@ pub struct PlainList {
 
 // The row's part of the lent words, from `start` on, and 0, or the number of the refusal: WORDS.
 #[repr(C)]
-#[derive(Drop)]
+#[derive(Clone, Copy)]
 pub struct PlainWords {
     pub no: u32,
     pub count: u32,
@@ -62,7 +62,7 @@ pub struct PlainWords {
 
 // What a run leaves: the head, the record bytes done, the line bytes written and 0, or the head as it was and the number of the refusal.
 #[repr(C)]
-#[derive(Drop)]
+#[derive(Clone, Copy)]
 pub struct PlainRan {
     pub head: PlainHead,
     pub no: u32,

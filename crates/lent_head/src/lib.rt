@@ -21,21 +21,21 @@ pub use running::run;
 pub use shape::{new, resize};
 
 // What is told of a change, the head being where it was lent: it is done, or the number that refuses it.
-#[derive(Drop)]
+#[derive(Clone, Copy)]
 pub enum Change {
     Done,
     No(u32),
 }
 
 // Where a run stands: how many record bytes are done, how many line bytes are written.
-#[derive(Drop)]
+#[derive(Clone, Copy)]
 pub struct Place {
     pub done: usize,
     pub written: usize,
 }
 
 // What is told of a run: where it stands, or the number that refuses the whole list.
-#[derive(Drop)]
+#[derive(Clone, Copy)]
 pub enum Went {
     Done(Place),
     No(u32),

@@ -13,7 +13,7 @@ use store_head::{Changed, Numbers, refusals};
 use table::Sizes;
 
 // How many numbers are lent in each buffer that MAKE asks for.
-#[derive(Drop)]
+#[derive(Clone, Copy)]
 struct Lengths {
     slots: usize,
     counts: usize,

@@ -18,7 +18,7 @@ mod tell;
 
 // What is told: nothing but that it is done, a number, the sizes, how many of the first answer places hold the list, how many words row r's tail has, or
 // the number of a refusal.
-#[derive(Drop)]
+#[derive(Clone, Copy)]
 pub enum Told {
     Done,
     Number(u32),
@@ -29,7 +29,7 @@ pub enum Told {
 }
 
 // The head afterwards, and what is told.
-#[derive(Drop)]
+#[derive(Clone, Copy)]
 pub struct Applied {
     pub head: Numbers,
     pub told: Told,

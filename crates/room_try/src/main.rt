@@ -12,7 +12,7 @@ use store_head::Numbers;
 use table::Op;
 
 // The head afterwards, and where reading goes on.
-#[derive(Drop)]
+#[derive(Clone, Copy)]
 struct Went {
     head: Numbers,
     next: usize,

@@ -9,7 +9,7 @@ use sparse_matrix::Head;
 use store_head::{Numbers, refusals};
 
 // Where a run stands: the head, how many record bytes are done, how many line bytes are written.
-#[derive(Drop)]
+#[derive(Clone, Copy)]
 pub struct Stand {
     pub head: Head,
     pub done: usize,
@@ -17,7 +17,7 @@ pub struct Stand {
 }
 
 // What a run answers: where it stands, or the number that refuses the whole list.
-#[derive(Drop)]
+#[derive(Clone, Copy)]
 pub enum Ran {
     Done(Stand),
     No(u32),

@@ -18,11 +18,11 @@ mod words;
 pub use store_head::{Listed, Number, Size, Sized};
 
 // The head: the matrix's numbers, and the operations as its methods. Lent slices are passed beside it.
-#[derive(Drop)]
+#[derive(Clone, Copy)]
 pub struct Head(pub Numbers);
 
 // A changed store's new head, or the number of a refusal.
-#[derive(Drop)]
+#[derive(Clone, Copy)]
 pub enum Changed {
     Done(Head),
     No(u32),

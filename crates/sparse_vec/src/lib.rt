@@ -14,14 +14,14 @@ pub use mapped::{count_in, retain, sound, walk};
 pub use run::{clear, exchange};
 
 // Where a number stands in a row, or the place where it would go.
-#[derive(Drop)]
+#[derive(Clone, Copy)]
 pub enum Found {
     At(usize),
     Insert(usize),
 }
 
 // How many numbers a sum has, or that it has no room.
-#[derive(Drop)]
+#[derive(Clone, Copy)]
 pub enum Sum {
     Done(usize),
     Full,

@@ -7,7 +7,7 @@ ghost use Rattle.sparse_vec.specs.Passes.{CanMerge, Merged, CanLay, Halfway, Hal
 use crate::run::bring;
 
 // How far a merge has come: i numbers of the first row and j of the second are read, n numbers of the sum are found.
-#[derive(Drop)]
+#[derive(Clone, Copy)]
 pub struct Reached {
     pub i: usize,
     pub j: usize,

@@ -2,7 +2,7 @@
 use store_head::Numbers;
 
 // The head's numbers and the ten buffers, each longer than the numbers ask for.
-#[derive(Drop)]
+#[derive(Clone, Copy)]
 pub struct Store {
     pub head: Numbers,
     pub slots: [u16; 7],

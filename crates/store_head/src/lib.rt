@@ -4,7 +4,7 @@ pub mod places;
 pub mod refusals;
 
 // The matrix's numbers: "h rows and w columns; the last n are the tail", slots for each row, the width at making, the index switch.
-#[derive(Drop)]
+#[derive(Clone, Copy)]
 pub struct Numbers {
     pub h: u32,
     pub w: u32,
@@ -24,28 +24,28 @@ impl Numbers {
 }
 
 // A changed store's new numbers, or the number of a refusal.
-#[derive(Drop)]
+#[derive(Clone, Copy)]
 pub enum Changed {
     Done(Numbers),
     No(u32),
 }
 
 // A number, or the number of a refusal: GET, COUNT.
-#[derive(Drop)]
+#[derive(Clone, Copy)]
 pub enum Number {
     Is(u32),
     No(u32),
 }
 
 // How many of the first answer places hold the list, or the number of a refusal: ITER, TAILONES, COLONES.
-#[derive(Drop)]
+#[derive(Clone, Copy)]
 pub enum Listed {
     Count(u32),
     No(u32),
 }
 
 // Height, width and tail.
-#[derive(Drop)]
+#[derive(Clone, Copy)]
 pub struct Size {
     pub h: u32,
     pub w: u32,
@@ -53,7 +53,7 @@ pub struct Size {
 }
 
 // The sizes, or the number of a refusal.
-#[derive(Drop)]
+#[derive(Clone, Copy)]
 pub enum Sized {
     Is(Size),
     No(u32),

@@ -7,7 +7,7 @@ pub mod one_record;
 mod tell;
 
 // What one record leaves: whether its line fits, where the next record starts, how many line bytes are written.
-#[derive(Drop)]
+#[derive(Clone, Copy)]
 pub struct Turn {
     pub head: Numbers,
     pub at: usize,
