@@ -15,7 +15,7 @@ use Rattle.model.specs.Store.{Store, row}
 use Rattle.model.specs.WellFormed.{WellFormed, Zero}
 use Rattle.model.specs.Change.{with_index}
 use Rattle.model.specs.Step.{inner}
-use Rattle.model.proofs.Walk.{all_ones}
+use Rattle.model.proofs.Walk.{all_ones_lem}
 use Rattle.model.proofs.Switch.{index-rows}
 use Rattle.model.proofs.Passed.{can-on}
 use Rattle.store_head.specs.Lent.{full_of}
@@ -78,7 +78,7 @@ module _ (s : Store) (v : WellFormed s) where
   -- ---- the ways out
   pub on-full : (ones : ℕ) → ones ≡ ones_of s.slots.counts s.head.h → length s.index.entries < ones → Refuses inner On s 14
   unfolding inner
-  on-full ones e h = rw (all_ones s v, lt-ltb (length s.index.entries) (ones_of s.slots.counts s.head.h) (rw e at h))
+  on-full ones e h = rw (all_ones_lem s v, lt-ltb (length s.index.entries) (ones_of s.slots.counts s.head.h) (rw e at h))
 
   pub on-done : (ones : ℕ) → ones ≡ ones_of s.slots.counts s.head.h → ones ≤ length s.index.entries
       → (marks starts entries : List ℕ) → marks ≡ put_at s.index.marks 0 (zeros (s.head.made - 0))
@@ -87,7 +87,7 @@ module _ (s : Store) (v : WellFormed s) where
       → Leaves inner On s (with_index s true (record { starts = starts; entries = entries; marks = marks }))
   unfolding inner
   on-done ones e room marks starts entries a b c =
-      rw (a, b, c, all-clear s.index.marks s.head.made v.limits.marks tidy.marks, all_ones s v, le-ltb (length s.index.entries) (ones_of s.slots.counts s.head.h) (rw e at room))
+      rw (a, b, c, all-clear s.index.marks s.head.made v.limits.marks tidy.marks, all_ones_lem s v, le-ltb (length s.index.entries) (ones_of s.slots.counts s.head.h) (rw e at room))
 
   pub off-done : (marks entries starts : List ℕ) → marks ≡ put_at s.index.marks 0 (zeros (s.head.made - 0))
       → entries ≡ put_at s.index.entries 0 (zeros (get_or s.index.starts s.head.made 0 - 0))

@@ -1,12 +1,7 @@
 -- `queries::query::get_in` meets its contract. Assumes nothing.
 use Rattle.queries.proofs.QueryNumbers.{get-row, get-column, get-sparse, get-tail}
 use Rattle.store_head.proofs.QueryPlaces.{column-low, column-in, in-slots, row-rises, cell_in}
-use Rattle.queries.proofs.query.get_in.Goals.{Else-head-c, Start}
 use Rattle.queries.proofs.query.get_in.Goals as goal
-
--- from the last test that did not refuse, back to the start
-abbrev start : Else-head-c → goal.Start
-start c = (goal.at.HELPER c).Start
 
 pub returns-then-head-r : goal.returns-then-head-r
 returns-then-head-r c = get-row _ _ c.if-head-r.true
@@ -15,19 +10,19 @@ pub returns-then-head-c : goal.returns-then-head-c
 returns-then-head-c c = get-column _ _ c.if-head-r.false c.if-head-c.true
 
 pub column-requires : goal.column-requires
-column-requires c = column-low _ (start (goal.at.column-requires c).Else-head-c).requires _ c.if-head-c.false
+column-requires c = column-low _ c.requires _ c.if-head-c.false
 
 pub home_column-z-requires : goal.home_column-z-requires
-home_column-z-requires c = column-in _ (start (goal.at.home_column-z-requires c).Else-head-c).requires _ _ c.if-head-c.false c.column.ensures
+home_column-z-requires c = column-in _ c.requires _ _ c.if-head-c.false c.column.ensures
 
 pub row-row-requires : goal.row-row-requires
-row-row-requires c = in-slots _ (start (goal.at.row-row-requires c).Else-head-c).requires _ _ c.if-head-r.false c.home_row-y.ensures
+row-row-requires c = in-slots _ c.requires _ _ c.if-head-r.false c.home_row-y.ensures
 
 pub get-one-requires : goal.get-one-requires
-get-one-requires c = row-rises _ (start (goal.at.get-one-requires c).Else-head-c).requires _ _ c.if-head-r.false c.home_row-y.ensures _ c.row-row.ensures
+get-one-requires c = row-rises _ c.requires _ _ c.if-head-r.false c.home_row-y.ensures _ c.row-row.ensures
 
 pub get-set-requires : goal.get-set-requires
-get-set-requires c = cell_in _ (start (goal.at.get-set-requires c).Else-head-c).requires _ _ c.if-head-r.false c.home_row-y.ensures _ c.row_place.ensures _ c.if-c-edge.false c.if-head-c.false
+get-set-requires c = cell_in _ c.requires _ _ c.if-head-r.false c.home_row-y.ensures _ c.row_place.ensures _ c.if-c-edge.false c.if-head-c.false
 
 pub returns-then-c-edge : goal.returns-then-c-edge
 returns-then-c-edge c = get-sparse _ _ c.if-head-r.false c.if-head-c.false _ _ _ _ _ _ c.if-c-edge.true c.home_row-y.ensures c.column.ensures c.home_column-z.ensures c.row-row.ensures c.get-one.ensures c.bit.ensures
