@@ -1,0 +1,6 @@
+-- `store_check::lists::maps_ok` meets its contract. Assumes nothing.
+use Rattle.store_check.proofs.Pieces.{maps-told}
+use Rattle.store_check.proofs.lists.maps_ok.Goals as goal
+
+pub returns : goal.returns
+returns c = maps-told _ _ _ _ _ _ _ c.rows_inverse.ensures c.columns_inverse.ensures
