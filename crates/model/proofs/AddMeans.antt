@@ -1,27 +1,27 @@
 -- ADD on a store, whole: the rows' lists, the mark and the tail together. Assumes nothing.
 use mathlib.Core.Path.{◌≡◌, refl, sym, ap, ap₂, ◌∙◌, subst}
-use mathlib.Core.Bool.{Bool, true, false, not, ◌&&◌, ◌||◌, xor, true≢false, false≢true}
-use mathlib.Core.Logic.{◌⊎◌, inl, inr, ⊎_elim}
-use mathlib.Core.List.{List, [], ◌∷◌}
-use Prim.Native.Nat.{ℕ, ◌+◌, ◌-◌, ◌*◌, ◌≤◌, ◌<◌}
+use mathlib.Core.Bool.{Bool, true, false, not, ◌&&◌, ◌||◌, xor}
+use mathlib.Core.Logic.{◌⊎◌, ⊎_elim}
+use mathlib.Core.List.{[], ◌∷◌}
+use Prim.Native.Nat.{ℕ, ◌≤◌, ◌<◌}
 use native.Mathlib.Omega.{arith}
 use lib.Dec.{leb, ltb, eqb, leb-zero}
 use lib.ListN.{length, get_or, set, length-set}
-use borrow.Author.Tests.{ltb-true, ltb-false, lt-ltb, le-ltb, le-leb, lt-leb, eqb-true, eqb-false, eq-eqb, ne_eqb}
+use borrow.Author.Tests.{ltb-true, ltb-false, lt-ltb, le-leb, lt-leb, eqb-true, eqb-false, eq-eqb, ne_eqb}
 use Rattle.laws.specs.Plain.{pick}
 use Rattle.laws.specs.Rows.{member, xor_merge}
-use Rattle.laws.proofs.Bools.{by-test, not-both, or-false, or-true, and-false}
-use Rattle.laws.proofs.Maps.{same_test, one-to-one}
+use Rattle.laws.proofs.Bools.{by-test, or-false, or-true, and-false}
+use Rattle.laws.proofs.Maps.{same_test}
 use Rattle.laws.proofs.Parts.{set_is}
 use Rattle.laws.specs.Words.{words_for}
 use Rattle.tail.specs.Tail.{xored}
 use Rattle.tail.proofs.Tails.{xored-length}
 use Rattle.table.specs.declared.Addition.{Addition}
 use Rattle.table.specs.declared.Op.TheVariants.{Add}
-use Rattle.table.specs.Step.{after, in_tail}
-use Rattle.model.specs.Store.{Store, edge, row, home_row, home_column, logical_column, cell, table_of}
+use Rattle.table.specs.Step.{after}
+use Rattle.model.specs.Store.{Store, edge, row, home_row, home_column, cell, table_of}
 use Rattle.model.specs.WellFormed.{WellFormed}
-use Rattle.model.specs.Change.{with_marks, add_sparse, spend, add_tail, add_homes, add_rows}
+use Rattle.model.specs.Change.{with_marks, add_sparse, spend, add_tail, add_rows}
 use Rattle.model.proofs.Same.{same-table}
 use Rattle.model.proofs.Rows.{frame-of, words-fit}
 use Rattle.model.proofs.SameRoom.{SameRoom, room-then, with_row-room, with_words-room, with_marks-room}

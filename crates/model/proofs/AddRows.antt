@@ -1,33 +1,27 @@
 -- ADD on a store: it stays well-formed, and its table is the plain table's. Assumes nothing.
 use mathlib.Core.Path.{◌≡◌, refl, sym, ap, ◌∙◌}
-use mathlib.Core.Bool.{Bool, true, false, not, ◌&&◌, ◌||◌, xor, true≢false, false≢true}
-use mathlib.Core.Logic.{◌⊎◌, inl, inr, ⊎_elim}
+use mathlib.Core.Bool.{Bool, true, false, not, ◌&&◌, xor}
+use mathlib.Core.Logic.{inr}
 use mathlib.Core.List.{List, [], ◌∷◌}
-use Prim.Native.Nat.{ℕ, ◌+◌, ◌-◌, ◌*◌, ◌≤◌, ◌<◌}
+use Prim.Native.Nat.{ℕ, ◌-◌, ◌≤◌, ◌<◌}
 use native.Mathlib.Omega.{arith}
-use lib.Dec.{leb, ltb, eqb, leb-zero}
+use lib.Dec.{ltb, eqb}
 use lib.ListN.{length, get_or, set, length-set}
 use lib.Seq.{get_or-set_other}
-use borrow.Author.Tests.{ltb-true, ltb-false, lt-ltb, le-ltb, leb-true, leb-false, le-leb, lt-leb, eqb-true, eqb-false, eq-eqb, ne_eqb}
+use borrow.Author.Tests.{ltb-false, eqb-true}
 use Rattle.laws.specs.Plain.{pick}
-use Rattle.laws.specs.Rows.{member, From, xor_merge}
+use Rattle.laws.specs.Rows.{member, xor_merge}
 use Rattle.laws.specs.Words.{words_for}
-use Rattle.laws.proofs.Bools.{by-test, not-both, xor-false, or-false, or-true, and-false}
-use Rattle.laws.proofs.Members.{member-head}
+use Rattle.laws.proofs.Bools.{by-test, not-both, xor-false}
 use Rattle.laws.proofs.Merge.{merge-member, merge-from}
-use Rattle.laws.proofs.Maps.{same_test}
 use Rattle.laws.proofs.Parts.{row-end, set_is}
-use Rattle.tail.specs.Tail.{tail_bit, xored, pad_clear}
+use Rattle.tail.specs.Tail.{tail_bit, xored}
 use Rattle.tail.proofs.Tails.{tail-xor, pad-xor, xored-length, xored-rest}
-use Rattle.table.specs.declared.Addition.{Addition}
-use Rattle.table.specs.declared.Op.TheVariants.{Add}
-use Rattle.table.specs.Step.{after}
-use Rattle.model.specs.Store.{Store, edge, row, home_row, home_column, logical_column, cell, table_of}
-use Rattle.model.specs.WellFormed.{WellFormed, MapsOk, RowsOk, TailOk, Switched, Limits, Unused}
-use Rattle.model.specs.Change.{with_row, with_words, with_marks, add_sparse, spend, add_tail, add_homes, add_rows}
+use Rattle.model.specs.Store.{Store, edge, row, home_column, cell}
+use Rattle.model.specs.WellFormed.{WellFormed, Switched}
+use Rattle.model.specs.Change.{with_marks, add_sparse, add_tail}
 use Rattle.model.proofs.Same.{pick-off}
 use Rattle.model.proofs.Rows.{frame-of, row_at, with_row-ok, with_words-ok, words-fit}
-use Rattle.model.proofs.SetCell.{still-off}
 use Rattle.model.proofs.IndexKept.{Asked, index-narrower}
 
 -- ---- the tail words

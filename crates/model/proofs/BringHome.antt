@@ -1,18 +1,15 @@
 -- RESIZE, first step: the rows 0 to k-1 are brought home, one exchange each. Assumes nothing.
-use mathlib.Core.Path.{◌≡◌, refl, sym, ap, ◌∙◌}
-use mathlib.Core.Bool.{Bool, true, false}
-use mathlib.Core.List.{List}
+use mathlib.Core.Path.{◌≡◌, refl, ◌∙◌}
+use mathlib.Core.Bool.{false}
 use Prim.Native.Nat.{ℕ, zero, suc, ◌≤◌, ◌<◌}
 use native.Mathlib.Omega.{arith}
 use lib.Dec.{eqb}
-use lib.ListN.{length, get_or}
 use borrow.Author.Tests.{eqb-true, eqb-false, eq-eqb, ne_eqb}
-use Rattle.laws.specs.Plain.{pick, exchange}
 use Rattle.laws.proofs.Bools.{by-test}
 use Rattle.laws.proofs.Numbers.{lt-or-le}
 use mathlib.Core.Logic.{⊎_elim}
 use Rattle.laws.proofs.Maps.{one-to-one}
-use Rattle.model.specs.Store.{Head, Maps, Index, Store, home_row, table_of}
+use Rattle.model.specs.Store.{Store, home_row, table_of}
 use Rattle.model.specs.WellFormed.{WellFormed}
 use Rattle.model.specs.Change.{swap_homes, bring_home, brought_home}
 use Rattle.model.proofs.Homes.{homes-ok, home_at, homes-mean, homes-room}

@@ -1,19 +1,18 @@
 -- THE STORE CHECK IS SOUND AND COMPLETE: the test passes exactly on well-formed stores. Assumes nothing.
-use mathlib.Core.Path.{◌≡◌, refl, sym, ap, ◌∙◌}
-use mathlib.Core.Bool.{Bool, true, false, ◌&&◌}
-use mathlib.Core.List.{List}
-use Prim.Native.Nat.{ℕ, suc, ◌+◌, ◌-◌, ◌*◌, ◌≤◌, ◌<◌}
+use mathlib.Core.Path.{◌≡◌, sym, ◌∙◌}
+use mathlib.Core.Bool.{Bool, true, ◌&&◌}
+use Prim.Native.Nat.{ℕ, suc, ◌+◌, ◌*◌, ◌≤◌, ◌<◌}
 use native.Mathlib.Omega.{arith}
-use lib.Dec.{leb, ltb, eqb}
+use lib.Dec.{leb, ltb}
 use lib.ListN.{length, get_or, take, get_or-eq_default}
 use lib.Seq.{get_or-take, length-take-le}
 use borrow.Author.Tests.{leb-true, le-leb, ltb-true, ltb-false}
 use Rattle.laws.specs.Plain.{pick}
-use Rattle.laws.specs.Rows.{member, From}
+use Rattle.laws.specs.Rows.{member}
 use Rattle.laws.specs.Parts.{part}
 use Rattle.laws.specs.Tests.{all_below, zero_from}
 use Rattle.laws.specs.Words.{words_for}
-use Rattle.laws.proofs.Bools.{by-test, not-both, and-true, and_first, and_second}
+use Rattle.laws.proofs.Bools.{by-test, and_first, and_second}
 use Rattle.laws.proofs.Passes.{all-at, all_of, zero-sound, zero-complete}
 use Rattle.laws.proofs.Parts.{part_at, part_length, row-end}
 use Rattle.permutation.proofs.Inverse.{inverse-sound, inverse-complete}
@@ -21,11 +20,10 @@ use Rattle.permutation.specs.Maps.{inverse_test}
 use Rattle.sparse_vec.specs.Row.{row_test}
 use Rattle.sparse_vec.proofs.Keeping.{test-sound, test-complete}
 use Rattle.tail.specs.Tail.{pad_clear}
-use Rattle.arraymap.specs.Check.{index_test}
 use Rattle.arraymap.proofs.Verdict.{index-sound, index-complete}
 use Rattle.table.specs.Step.{height_limit, width_limit, slot_limit}
 use Rattle.model.specs.Store.{Head, Store, edge, row, logical_column}
-use Rattle.model.specs.WellFormed.{WellFormed, MapsOk, RowsOk, TailOk, Switched, Limits, Unused, Zero}
+use Rattle.model.specs.WellFormed.{WellFormed, MapsOk, RowsOk, Switched, Limits, Unused}
 use Rattle.model.specs.Check.{head_test, length_test, maps_test, row_at, unused_test, off_test, on_test, well_formed}
 
 -- ---- the parts of a passed test, by name

@@ -1,15 +1,14 @@
 -- COLONES' answer: the rows of an exact column's list by their logical numbers are what the table says. Assumes nothing.
-use mathlib.Core.Path.{◌≡◌, refl, sym, ap, ◌∙◌}
-use mathlib.Core.Bool.{Bool, true, false, ◌&&◌}
-use mathlib.Core.List.{List}
-use Prim.Native.Nat.{ℕ, ◌-◌, ◌≤◌, ◌<◌, min}
+use mathlib.Core.Path.{◌≡◌, sym, ◌∙◌}
+use mathlib.Core.Bool.{true, ◌&&◌}
+use Prim.Native.Nat.{ℕ, ◌-◌, ◌<◌, min}
 use native.Mathlib.Omega.{arith}
-use lib.Dec.{ltb, eqb}
-use lib.ListN.{length, get_or}
-use borrow.Author.Tests.{lt-ltb, eqb-true}
-use Rattle.laws.specs.Plain.{select, between}
+use lib.Dec.{ltb}
+use lib.ListN.{get_or}
+use borrow.Author.Tests.{lt-ltb}
+use Rattle.laws.specs.Plain.{between}
 use Rattle.laws.specs.Rows.{member}
-use Rattle.laws.proofs.Bools.{by-test, same_bool}
+use Rattle.laws.proofs.Bools.{same_bool}
 use Rattle.laws.proofs.Select.{select-same}
 use Rattle.arraymap.specs.Index.{list_at}
 use Rattle.arraymap.specs.Show.{shown, CanShow}

@@ -1,25 +1,24 @@
 -- What the refusals of SET and ADD look at, in the store's own numbers: how long a row would be, and whether the source has a single one. Assumes nothing.
 use mathlib.Core.Path.{◌≡◌, refl, sym, ap, ◌∙◌}
-use mathlib.Core.Bool.{Bool, true, false, not, ◌&&◌, ◌||◌, xor}
+use mathlib.Core.Bool.{Bool, true, false, not, ◌&&◌, ◌||◌}
 use mathlib.Core.List.{List, [], ◌∷◌}
-use Prim.Native.Nat.{ℕ, zero, suc, ◌+◌, ◌-◌, ◌≤◌, ◌<◌}
+use Prim.Native.Nat.{ℕ, suc, ◌+◌, ◌≤◌, ◌<◌}
 use native.Mathlib.Omega.{arith}
 use lib.Dec.{leb, ltb, eqb, leb-zero}
 use lib.ListN.{length, get_or}
-use borrow.Author.Tests.{ltb-true, ltb-false, lt-ltb, le-ltb, le-leb, lt-leb, eqb-true, eqb-false, eq-eqb, ne_eqb}
-use Rattle.laws.specs.Plain.{pick, select}
+use borrow.Author.Tests.{ltb-true, ltb-false, lt-ltb, le-ltb, le-leb, lt-leb, eqb-true, eq-eqb, ne_eqb}
 use Rattle.laws.specs.Rows.{member, From, xor_merge}
 use Rattle.laws.proofs.Bools.{by-test, not-both, and-false, xor-false}
-use Rattle.laws.proofs.Members.{member-head, member-later}
+use Rattle.laws.proofs.Members.{member-head}
 use Rattle.laws.proofs.Merge.{merge-member, merge-from}
 use Rattle.laws.proofs.Maps.{flip, same_test, test_back}
 use Rattle.laws.proofs.Select.{count_same, is-select}
 use Rattle.table.specs.declared.SetCell.{SetCell}
 use Rattle.table.specs.declared.Addition.{Addition}
 use Rattle.table.specs.declared.Op.TheVariants.{Set, Add}
-use Rattle.table.specs.Table.{Table, sparse_ones, row_count}
+use Rattle.table.specs.Table.{sparse_ones, row_count}
 use Rattle.table.specs.Step.{after, not_single}
-use Rattle.model.specs.Store.{Store, edge, row, home_row, home_column, logical_column, cell, table_of}
+use Rattle.model.specs.Store.{Store, edge, row, home_row, home_column, logical_column, table_of}
 use Rattle.model.specs.WellFormed.{WellFormed}
 use Rattle.model.specs.Change.{set_row}
 use Rattle.model.proofs.Same.{pick-off}

@@ -1,24 +1,24 @@
 -- RESIZE, third step: the columns from w on are dropped by their logical numbers, and the whole tail. Assumes nothing.
 use mathlib.Core.Path.{◌≡◌, refl, sym, ap, ◌∙◌}
-use mathlib.Core.Bool.{Bool, true, false, ◌&&◌}
+use mathlib.Core.Bool.{true, false, ◌&&◌}
 use mathlib.Core.Logic.{⊎_elim}
 use mathlib.Core.List.{List}
-use Prim.Native.Nat.{ℕ, zero, suc, ◌+◌, ◌-◌, ◌*◌, ◌≤◌, ◌<◌}
+use Prim.Native.Nat.{ℕ, zero, suc, ◌-◌, ◌*◌, ◌≤◌, ◌<◌}
 use native.Mathlib.Omega.{arith}
 use lib.Dec.{ltb, eqb}
 use lib.ListN.{length, get_or}
-use borrow.Author.Tests.{ltb-true, lt-ltb, eqb-true, eqb-false, ne_eqb}
+use borrow.Author.Tests.{ltb-true, lt-ltb, eqb-false, ne_eqb}
 use Rattle.laws.specs.Plain.{pick}
-use Rattle.laws.specs.Rows.{member, From}
-use Rattle.laws.specs.Words.{words_for, padding}
+use Rattle.laws.specs.Rows.{member}
+use Rattle.laws.specs.Words.{words_for}
 use Rattle.laws.proofs.Bools.{by-test, not-both, and_first, and_second}
 use Rattle.laws.proofs.Numbers.{lt-or-le}
 use Rattle.sparse_vec.specs.Row.{kept_below}
 use Rattle.sparse_vec.proofs.Keeping.{kept-member, kept_from, kept-length}
 use Rattle.tail.proofs.Tails.{pad-none}
-use Rattle.model.specs.Store.{Head, Maps, Index, Store, edge, row, home_row, home_column, logical_column, cell, table_of}
-use Rattle.model.specs.WellFormed.{WellFormed, MapsOk, RowsOk, TailOk, Switched, Limits, Unused}
-use Rattle.model.specs.Change.{with_row, cleared, kept_columns, drop_columns}
+use Rattle.model.specs.Store.{Store, edge, row, home_column, cell}
+use Rattle.model.specs.WellFormed.{WellFormed}
+use Rattle.model.specs.Change.{with_row, kept_columns, drop_columns}
 use Rattle.model.proofs.Rows.{frame-of, row_at, row-length, with_row-ok}
 use Rattle.model.proofs.SetCell.{still-off}
 use Rattle.model.proofs.SameRoom.{SameRoom, same-room, room-then, with_row-room}

@@ -1,27 +1,23 @@
 -- RESIZE, second step: the rows from k on are dropped, and what they held is cleared. Assumes nothing.
 use mathlib.Core.Path.{◌≡◌, refl, sym, ap, ◌∙◌}
-use mathlib.Core.Bool.{Bool, true, false, ◌&&◌}
-use mathlib.Core.Logic.{◌⊎◌, inl, inr, ⊎_elim}
+use mathlib.Core.Bool.{true, false}
+use mathlib.Core.Logic.{inl, ⊎_elim}
 use mathlib.Core.List.{List}
-use Prim.Native.Nat.{ℕ, zero, suc, ◌+◌, ◌-◌, ◌*◌, ◌≤◌, ◌<◌}
+use Prim.Native.Nat.{ℕ, ◌+◌, ◌-◌, ◌*◌, ◌≤◌, ◌<◌}
 use native.Mathlib.Omega.{arith}
 use native.Mathlib.Nat.{mul-le-mul_right}
 use lib.Dec.{ltb, eqb}
 use lib.ListN.{length, get_or}
-use lib.Seq.{ext_get_or}
-use borrow.Author.Tests.{ltb-true, ltb-false, eqb-true, eqb-false}
-use Rattle.laws.specs.Plain.{pick}
-use Rattle.laws.specs.Rows.{member, From}
-use Rattle.laws.specs.Maps.{Inverse}
-use Rattle.laws.specs.Parts.{zeros, part, put_at, row_of}
+use borrow.Author.Tests.{ltb-false, eqb-true, eqb-false}
+use Rattle.laws.specs.Parts.{zeros, part, row_of}
 use Rattle.laws.specs.Words.{words_for, padding, word_of, bit_of, digit}
 use Rattle.laws.proofs.Bools.{by-test, not-both}
 use Rattle.laws.proofs.Numbers.{lt-or-le}
 use Rattle.laws.proofs.Parts.{zeros-length, zeros-at, part_apart, put-length, put-below, put-in, put-above, row-end}
 use Rattle.tail.specs.Tail.{tail_bit, pad_clear}
 use Rattle.tail.proofs.Tails.{pad-none, pad-same}
-use Rattle.model.specs.Store.{Store, edge, row, home_row, home_column, cell, table_of}
-use Rattle.model.specs.WellFormed.{WellFormed, MapsOk, RowsOk, TailOk, Switched, Limits, Unused}
+use Rattle.model.specs.Store.{Store, edge, row, home_row, cell}
+use Rattle.model.specs.WellFormed.{WellFormed}
 use Rattle.model.specs.Change.{cleared, drop_rows}
 use Rattle.model.proofs.SameRoom.{SameRoom}
 

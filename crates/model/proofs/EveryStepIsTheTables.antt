@@ -1,29 +1,24 @@
 -- EVERY STEP IS THE TABLE'S (demands 1 and 2): on a well-formed store an operation is refused, answered and done as the plain table says at the store's
 -- room, refusals and answers included, and the store stays well-formed. MAKE asks nothing of the store. Assumes nothing.
 use mathlib.Core.Path.{◌≡◌, refl, sym, ap, ◌∙◌}
-use mathlib.Core.Bool.{Bool, true, false, not, ◌&&◌, true≢false, false≢true}
+use mathlib.Core.Bool.{Bool, true, false, not, ◌&&◌, false≢true}
 use mathlib.Core.List.{List, [], ◌∷◌, ◌++◌}
 use Prim.Native.Nat.{ℕ, ◌≤◌}
 use lib.Dec.{ltb}
 use lib.ListN.{length}
 use borrow.Author.Tests.{ltb-false}
-use Rattle.laws.specs.Parts.{zeros, over}
-use Rattle.laws.proofs.Bools.{by-test, not-both, and_first, and_second, and-false, quiet-first}
-use Rattle.laws.proofs.Parts.{zeros-length, over-length}
-use Rattle.permutation.proofs.Identity.{identity-length}
+use Rattle.laws.proofs.Bools.{by-test, not-both, and_second, quiet-first}
+use Rattle.laws.proofs.Parts.{over-length}
 use Rattle.permutation.proofs.Maps.{swapped-length, turned-length}
-use Rattle.arraymap.proofs.Means.{starts-length, entries-length}
 use Rattle.table.specs.declared.Op.{Op}
 use Rattle.table.specs.declared.Op.TheVariants.{Make, Set, SwapR, SwapC, Add, On, Off, Freeze, Resize, Get, Count, Words, TailOnes, Iter, ColOnes, Size}
-use Rattle.table.specs.Refusals.{number, Check, ◌when◌, Verdict, refused, done, outcome}
-use Rattle.table.specs.Table.{Table}
+use Rattle.table.specs.Refusals.{Check, ◌when◌, Verdict, refused, done, outcome}
 use Rattle.table.specs.Step.{checks, after, answer}
-use Rattle.table.specs.Room.{Room, Held, kind, is_make, room_after, room_checks, all_checks, call, verdict, passes}
+use Rattle.table.specs.Room.{Held, kind, is_make, room_after, room_checks, all_checks, call, verdict, passes}
 use Rattle.table.specs.Run.{kept}
-use Rattle.model.specs.Store.{Head, Store, Full, row, table_of, lent_of, held_of}
+use Rattle.model.specs.Store.{Full, table_of, held_of}
 use Rattle.model.specs.WellFormed.{WellFormed}
 use Rattle.model.specs.Check.{well_formed}
-use Rattle.model.specs.Change.{made, swap_rows, swap_columns, index_on, index_off}
 use Rattle.model.specs.Step.{changed, answered, full_after, step, inner}
 use Rattle.model.proofs.SameRoom.{SameRoom, same-room, room-is}
 use Rattle.model.proofs.SetCell.{set-ok, set-means, set_room}

@@ -1,6 +1,5 @@
 -- Two rows of k places in a run of h rows change places: what stands where then. Assumes nothing.
-use mathlib.Core.Path.{◌≡◌, refl, sym, ap, ◌∙◌}
-use mathlib.Core.Bool.{Bool, true, false}
+use mathlib.Core.Path.{◌≡◌, sym, ◌∙◌}
 use mathlib.Core.Logic.{◌⊎◌, inl, inr, ⊎_elim}
 use mathlib.Core.List.{List}
 use Prim.Native.Nat.{ℕ, ◌+◌, ◌*◌, ◌≤◌, ◌<◌}
@@ -8,8 +7,8 @@ use native.Mathlib.Omega.{arith}
 use lib.Dec.{eqb}
 use lib.ListN.{length, get_or}
 use lib.Seq.{ext_get_or}
-use borrow.Author.Tests.{eqb-true, eqb-false, eq-eqb, ne_eqb}
-use Rattle.laws.specs.Plain.{pick, exchange}
+use borrow.Author.Tests.{eqb-true, eqb-false}
+use Rattle.laws.specs.Plain.{exchange}
 use Rattle.laws.specs.Parts.{part, put_at}
 use Rattle.laws.proofs.Bools.{by-test}
 use Rattle.laws.proofs.Parts.{part_length, part_at, put-length, put-below, put-in, put-above, row-end}

@@ -1,34 +1,33 @@
 -- FREEZE on a store: it stays well-formed, and its table is the plain table's. Assumes nothing.
 use mathlib.Core.Path.{◌≡◌, refl, sym, ap, ◌∙◌, subst}
-use mathlib.Core.Bool.{Bool, true, false, not, ◌&&◌, ◌||◌}
-use mathlib.Core.List.{List, [], ◌∷◌}
-use Prim.Native.Nat.{ℕ, zero, suc, ◌+◌, ◌-◌, ◌*◌, ◌/◌, ◌≤◌, ◌<◌}
+use mathlib.Core.Bool.{Bool, true, false, not, ◌&&◌}
+use mathlib.Core.List.{List}
+use Prim.Native.Nat.{ℕ, suc, ◌-◌, ◌*◌, ◌≤◌, ◌<◌}
 use native.Mathlib.Omega.{arith}
 use native.Mathlib.Nat.{mul-le-mul_right}
-use lib.Dec.{leb, ltb, eqb}
+use lib.Dec.{ltb, eqb}
 use lib.ListN.{length, get_or}
-use borrow.Author.Tests.{ltb-true, ltb-false, lt-ltb, le-ltb, eqb-true, eqb-false, eq-eqb, ne_eqb}
-use Rattle.laws.specs.Plain.{pick}
-use Rattle.laws.specs.Rows.{member, From, take_out}
+use borrow.Author.Tests.{ltb-true, ltb-false, lt-ltb, le-ltb, eqb-true, eqb-false, ne_eqb}
+use Rattle.laws.specs.Rows.{member, take_out}
 use Rattle.laws.specs.Words.{words_for}
 use Rattle.laws.proofs.Bools.{by-test, not-both, and_first, and_second, or-false}
 use Rattle.laws.proofs.Members.{take-member}
 use Rattle.laws.proofs.Maps.{same_test}
-use Rattle.tail.specs.Tail.{tail_bit, grown}
+use Rattle.tail.specs.Tail.{tail_bit}
 use Rattle.tail.proofs.Grown.{grown-length, tail-grown, tail-grown-new, pad-grown, grown-past}
 use Rattle.arraymap.specs.Index.{list_at}
 use Rattle.arraymap.specs.Check.{IndexOk}
 use Rattle.table.specs.declared.Column.{Column}
 use Rattle.table.specs.declared.Op.TheVariants.{Freeze}
 use Rattle.table.specs.Step.{after}
-use Rattle.model.specs.Store.{Head, Store, edge, row, home_row, home_column, logical_column, cell, table_of}
-use Rattle.model.specs.WellFormed.{WellFormed, MapsOk, TailOk, Switched, Limits, Unused}
-use Rattle.model.specs.Change.{grown_tail, freeze_rows, freeze_column}
+use Rattle.model.specs.Store.{Head, Store, edge, row, home_row, home_column, cell, table_of}
+use Rattle.model.specs.WellFormed.{WellFormed, Switched}
+use Rattle.model.specs.Change.{grown_tail, freeze_column}
 use Rattle.model.proofs.Same.{same-table, same-inside}
 use Rattle.model.proofs.Rows.{Frame, frame-ok}
 use Rattle.model.proofs.FreezeRows.{Frozen, freeze-rows, take_none}
 use Rattle.model.proofs.SameRoom.{SameRoom, room-then}
-use Rattle.model.proofs.IndexKept.{Asked, index-narrower}
+use Rattle.model.proofs.IndexKept.{index-narrower}
 
 words_up : (n : ℕ) → words_for n ≤ words_for (suc n)
 words_up n = omega arith

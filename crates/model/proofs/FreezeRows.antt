@@ -1,23 +1,22 @@
 -- FREEZE's walk over the listed rows: each that still has the column moves its one to the first tail column. Assumes nothing.
 use mathlib.Core.Path.{◌≡◌, refl, sym, ap, ◌∙◌}
-use mathlib.Core.Bool.{Bool, true, false, not, ◌&&◌, ◌||◌}
-use mathlib.Core.Logic.{◌⊎◌, inl, inr}
+use mathlib.Core.Bool.{true, false, not, ◌&&◌, ◌||◌}
+use mathlib.Core.Logic.{inr}
 use mathlib.Core.List.{List, [], ◌∷◌}
-use Prim.Native.Nat.{ℕ, zero, suc, ◌+◌, ◌-◌, ◌*◌, ◌≤◌, ◌<◌}
+use Prim.Native.Nat.{ℕ, suc, ◌≤◌, ◌<◌}
 use native.Mathlib.Omega.{arith}
-use lib.Dec.{ltb, eqb}
-use lib.ListN.{length, get_or}
-use borrow.Author.Tests.{eqb-true, eqb-false, eq-eqb, ne_eqb}
+use lib.Dec.{eqb}
+use lib.ListN.{length}
+use borrow.Author.Tests.{eqb-true, ne_eqb}
 use Rattle.laws.specs.Plain.{pick}
 use Rattle.laws.specs.Rows.{member, From, take_out}
 use Rattle.laws.specs.Words.{words_for}
 use Rattle.laws.proofs.Bools.{by-test, not-both, and_second}
-use Rattle.laws.proofs.Members.{take-member, take-from, take-length, none_below, from-down, member-from, member-head, member-later}
+use Rattle.laws.proofs.Members.{take-member, take-from, take-length, none_below, member-head, member-later}
 use Rattle.laws.proofs.Parts.{row-end}
-use Rattle.tail.specs.Tail.{tail_bit, tail_put, pad_clear, InRow}
+use Rattle.tail.specs.Tail.{tail_bit, tail_put}
 use Rattle.tail.proofs.Tails.{tail-put, tail-put-length, tail-put-rest, pad-put}
-use Rattle.model.specs.Store.{Store, edge, row, logical_column}
-use Rattle.model.specs.WellFormed.{TailOk, Limits, Unused, Zero}
+use Rattle.model.specs.Store.{Store, row}
 use Rattle.model.specs.Change.{with_row, with_words, freeze_row, freeze_rows}
 use Rattle.model.proofs.Same.{pick-off}
 use Rattle.model.proofs.Rows.{Frame, row-length, row_at, with_row-frame, with_words-frame, frame-words}

@@ -1,26 +1,23 @@
 -- Two home rows change places, with the maps: the store stays well-formed and its table the same. What RESIZE brings rows home by. Assumes nothing.
 use mathlib.Core.Path.{◌≡◌, refl, sym, ap, ◌∙◌}
-use mathlib.Core.Bool.{Bool, true, false, ◌&&◌}
-use mathlib.Core.List.{List}
-use Prim.Native.Nat.{ℕ, zero, suc, ◌+◌, ◌-◌, ◌*◌, ◌/◌, ◌%◌, ◌≤◌, ◌<◌}
+use mathlib.Core.Bool.{true, false}
+use Prim.Native.Nat.{ℕ, ◌+◌, ◌-◌, ◌*◌, ◌<◌}
 use native.Mathlib.Omega.{arith}
 use lib.Dec.{ltb, eqb}
-use lib.ListN.{length, get_or}
-use borrow.Author.Tests.{ltb-true, ltb-false, eqb-true, eqb-false, lt-ltb}
-use Rattle.laws.specs.Plain.{pick, exchange}
-use Rattle.laws.specs.Rows.{member, From}
-use Rattle.laws.specs.Maps.{Inverse}
+use lib.ListN.{get_or}
+use borrow.Author.Tests.{ltb-false, eqb-true, eqb-false}
+use Rattle.laws.specs.Plain.{exchange}
 use Rattle.laws.specs.Parts.{row_of}
 use Rattle.laws.specs.Words.{words_for, padding, word_of, bit_of, digit}
 use Rattle.laws.proofs.Bools.{by-test, not-both}
 use Rattle.laws.proofs.Numbers.{exchange-below, exchange-twice}
 use Rattle.laws.proofs.Maps.{flip}
-use Rattle.permutation.specs.Maps.{swapped, turned}
+use Rattle.permutation.specs.Maps.{swapped}
 use Rattle.permutation.proofs.Maps.{swapped-length, swapped_at, swapped-past, turned-length, turned-at, turned-past, exchanged}
 use Rattle.tail.specs.Tail.{tail_bit, pad_clear}
 use Rattle.tail.proofs.Tails.{pad-none, pad-same}
-use Rattle.model.specs.Store.{Store, edge, row, home_row, home_column, logical_column, cell, table_of}
-use Rattle.model.specs.WellFormed.{WellFormed, MapsOk, RowsOk, TailOk, Switched, Limits, Unused}
+use Rattle.model.specs.Store.{Store, edge, row, home_row, cell, table_of}
+use Rattle.model.specs.WellFormed.{WellFormed}
 use Rattle.model.specs.Change.{swap_homes}
 use Rattle.model.proofs.Same.{same-table, same-inside}
 use Rattle.model.proofs.SameRoom.{SameRoom}

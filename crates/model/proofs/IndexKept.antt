@@ -1,9 +1,9 @@
 -- An index stays right while rows lose ones, if each column that lost one is spent or no longer sparse. Assumes nothing.
-use mathlib.Core.Path.{◌≡◌, refl, sym, ap, ◌∙◌}
-use mathlib.Core.Bool.{Bool, true, false}
+use mathlib.Core.Path.{◌≡◌}
+use mathlib.Core.Bool.{true}
 use mathlib.Core.List.{List}
 use Prim.Native.Nat.{ℕ, ◌≤◌, ◌<◌}
-use lib.ListN.{length, get_or}
+use lib.ListN.{get_or}
 use Rattle.laws.specs.Rows.{member}
 use Rattle.arraymap.specs.Check.{IndexOk}
 

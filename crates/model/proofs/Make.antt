@@ -1,15 +1,14 @@
 -- MAKE over any lent numbers, where there is room: a well-formed store whose table is all zero. Assumes nothing.
-use mathlib.Core.Path.{◌≡◌, refl, sym, ap, ◌∙◌}
-use mathlib.Core.Bool.{Bool, true, false, not, ◌&&◌, false≢true}
+use mathlib.Core.Path.{◌≡◌, refl, ap}
+use mathlib.Core.Bool.{Bool, true, false, ◌&&◌}
 use mathlib.Core.List.{List, []}
-use Prim.Native.Nat.{ℕ, zero, suc, ◌+◌, ◌-◌, ◌*◌, ◌/◌, ◌%◌, ◌^◌, ◌≤◌, ◌<◌}
+use Prim.Native.Nat.{ℕ, suc, ◌+◌, ◌-◌, ◌*◌, ◌/◌, ◌%◌, ◌^◌, ◌≤◌}
 use native.Mathlib.Omega.{arith}
 use native.Mathlib.Nat.{zero-mod}
-use lib.Dec.{ltb, eqb}
+use lib.Dec.{ltb}
 use lib.ListN.{length, get_or, take, drop}
-use borrow.Author.Tests.{ltb-true, lt-ltb, eq-eqb}
-use Rattle.laws.specs.Plain.{pick}
-use Rattle.laws.specs.Rows.{member, From}
+use borrow.Author.Tests.{ltb-true, eq-eqb}
+use Rattle.laws.specs.Rows.{member}
 use Rattle.laws.specs.Maps.{Inverse}
 use Rattle.laws.specs.Parts.{zeros, part, row_of}
 use Rattle.laws.specs.Words.{words_for, padding}
@@ -22,10 +21,10 @@ use Rattle.tail.proofs.Digits.{digit-zero}
 use Rattle.table.specs.declared.Sizes.{Sizes}
 use Rattle.table.specs.declared.Op.TheVariants.{Make}
 use Rattle.table.specs.Table.{Table}
-use Rattle.table.specs.Room.{Lent, Room}
+use Rattle.table.specs.Room.{Room}
 use Rattle.table.specs.Step.{after, height_limit, width_limit, slot_limit}
 use Rattle.model.specs.Store.{Store, Full, edge, row, home_row, home_column, cell, table_of, lent_of}
-use Rattle.model.specs.WellFormed.{WellFormed, MapsOk, RowsOk, TailOk, Switched, Limits, Unused}
+use Rattle.model.specs.WellFormed.{WellFormed}
 use Rattle.model.specs.Change.{made}
 use Rattle.model.proofs.Same.{same-table}
 

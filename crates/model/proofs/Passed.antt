@@ -1,15 +1,14 @@
 -- What the table's checks leave of each operation, in the store's own numbers. Assumes nothing.
-use mathlib.Core.Path.{◌≡◌, refl, sym, ap, ◌∙◌}
-use mathlib.Core.Bool.{Bool, true, false, not, ◌&&◌, ◌||◌, true≢false, false≢true}
-use mathlib.Core.Logic.{◌⊎◌, inl, inr, ⊎_elim}
+use mathlib.Core.Path.{◌≡◌, refl, sym, ◌∙◌}
+use mathlib.Core.Bool.{Bool, true, false, not, ◌&&◌, ◌||◌, true≢false}
+use mathlib.Core.Logic.{inl, inr}
 use mathlib.Core.List.{List, [], ◌∷◌}
-use Prim.Native.Nat.{ℕ, zero, suc, ◌+◌, ◌-◌, ◌*◌, ◌≤◌, ◌<◌}
+use Prim.Native.Nat.{ℕ, suc, ◌-◌, ◌*◌, ◌≤◌, ◌<◌}
 use native.Mathlib.Omega.{arith}
-use lib.Dec.{leb, ltb, eqb}
-use lib.ListN.{length, get_or}
-use borrow.Author.Tests.{ltb-true, ltb-false, leb-true, leb-false, lt-ltb, lt-leb, eqb-true, eqb-false, eq-eqb, not-false}
-use Rattle.laws.specs.Plain.{pick}
-use Rattle.laws.specs.Rows.{member, xor_merge}
+use lib.Dec.{ltb, eqb}
+use lib.ListN.{length}
+use borrow.Author.Tests.{ltb-false, leb-false, lt-ltb, lt-leb, eqb-true, eqb-false, eq-eqb, not-false}
+use Rattle.laws.specs.Rows.{member}
 use Rattle.laws.specs.Words.{words_for}
 use Rattle.laws.proofs.Bools.{by-test, not-both, or-first, or-second, quiet-first, quiet-rest}
 use Rattle.arraymap.specs.Index.{ones_of}
@@ -22,7 +21,7 @@ use Rattle.table.specs.declared.Shape.{Shape}
 use Rattle.table.specs.declared.Op.TheVariants.{Make, Set, SwapR, SwapC, Add, On, Freeze, Resize}
 use Rattle.table.specs.Table.{Table, sparse_ones, row_count, all_ones}
 use Rattle.table.specs.Step.{checks, after, row_past, column_past, in_tail, not_single, height_limit, width_limit, slot_limit}
-use Rattle.table.specs.Room.{Room, short, room_checks, passes}
+use Rattle.table.specs.Room.{Room, room_checks, passes}
 use Rattle.model.specs.Store.{Store, Full, edge, row, home_row, home_column, table_of, lent_of, held_of}
 use Rattle.model.specs.WellFormed.{WellFormed}
 use Rattle.model.specs.Change.{set_row}

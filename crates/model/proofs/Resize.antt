@@ -1,19 +1,17 @@
 -- RESIZE on a store, whole: it stays well-formed, and its table is the plain table's. Assumes nothing.
 use mathlib.Core.Path.{◌≡◌, refl, sym, ap, ◌∙◌}
-use mathlib.Core.Bool.{Bool, true, false, not, ◌&&◌}
-use mathlib.Core.List.{List}
-use Prim.Native.Nat.{ℕ, ◌-◌, ◌≤◌, ◌<◌}
+use mathlib.Core.Bool.{Bool, false, not, ◌&&◌}
+use Prim.Native.Nat.{ℕ, ◌≤◌, ◌<◌}
 use native.Mathlib.Omega.{arith}
 use lib.Dec.{ltb, eqb}
-use lib.ListN.{length, get_or}
-use borrow.Author.Tests.{ltb-true, ltb-false, lt-ltb, le-ltb, eqb-true, eqb-false}
+use lib.ListN.{get_or}
+use borrow.Author.Tests.{ltb-true, lt-ltb, eqb-true}
 use Rattle.laws.specs.Plain.{pick}
 use Rattle.laws.proofs.Bools.{by-test}
 use Rattle.table.specs.declared.Shape.{Shape}
 use Rattle.table.specs.declared.Op.TheVariants.{Resize}
-use Rattle.table.specs.Table.{Table}
 use Rattle.table.specs.Step.{after}
-use Rattle.model.specs.Store.{Head, Store, edge, row, home_row, home_column, cell, table_of}
+use Rattle.model.specs.Store.{Head, Store, edge, home_row, home_column, cell, table_of}
 use Rattle.model.specs.WellFormed.{WellFormed}
 use Rattle.model.specs.Change.{brought_home, drop_rows, drop_columns, resize}
 use Rattle.model.proofs.Same.{same-table, same-sizes}

@@ -1,25 +1,25 @@
 -- One home row of a well-formed store replaced, or its tail words: what each row lists then, and that the rest stays. Assumes nothing.
-use mathlib.Core.Path.{◌≡◌, refl, sym, ap, ◌∙◌}
-use mathlib.Core.Bool.{Bool, true, false}
+use mathlib.Core.Path.{◌≡◌, ◌∙◌}
+use mathlib.Core.Bool.{true}
 use mathlib.Core.Logic.{◌⊎◌, inl, inr, ⊎_elim}
 use mathlib.Core.List.{List}
-use Prim.Native.Nat.{ℕ, suc, ◌+◌, ◌-◌, ◌*◌, ◌≤◌, ◌<◌}
+use Prim.Native.Nat.{ℕ, ◌+◌, ◌*◌, ◌≤◌, ◌<◌}
 use native.Mathlib.Omega.{arith}
 use lib.Dec.{eqb}
-use lib.ListN.{length, get_or, set, take, length-set}
+use lib.ListN.{length, get_or, set, length-set}
 use lib.Seq.{get_or-set_same, get_or-set_other}
-use borrow.Author.Tests.{eqb-true, eqb-false, eq-eqb, ne_eqb}
+use borrow.Author.Tests.{eqb-true, eqb-false}
 use Rattle.laws.specs.Plain.{pick}
 use Rattle.laws.specs.Rows.{member, From}
-use Rattle.laws.specs.Parts.{part, put_at, pad_to, row_of}
+use Rattle.laws.specs.Parts.{put_at, pad_to, row_of}
 use Rattle.laws.proofs.Bools.{by-test}
-use Rattle.laws.proofs.Numbers.{lt-or-le, by_order}
-use Rattle.laws.proofs.Parts.{part_length, part_at, pad-length, pad-take, pad-high, put-length, put-part, put-below, put-in, put-above, part_apart, row-end}
+use Rattle.laws.proofs.Numbers.{by_order}
+use Rattle.laws.proofs.Parts.{part_length, pad-length, pad-take, pad-high, put-length, put-part, put-below, put-in, put-above, part_apart, row-end}
 use Rattle.laws.specs.Words.{words_for}
 use Rattle.sparse_vec.specs.Row.{put_row}
 use Rattle.tail.specs.Tail.{pad_clear, InRow}
 use Rattle.model.specs.Store.{Store, edge, row, logical_column}
-use Rattle.model.specs.WellFormed.{WellFormed, MapsOk, RowsOk, TailOk, Switched, Limits, Unused, Zero}
+use Rattle.model.specs.WellFormed.{WellFormed, MapsOk, TailOk, Switched, Limits, Unused, Zero}
 use Rattle.model.specs.Change.{with_row, with_words}
 
 -- rows of k places lie apart

@@ -1,15 +1,14 @@
 -- Two stores lent as much of everything, with the same slots: their room is the same. Assumes nothing.
-use mathlib.Core.Path.{◌≡◌, refl, sym, ap, ◌∙◌}
-use mathlib.Core.Bool.{Bool, true, false}
+use mathlib.Core.Path.{◌≡◌, refl, ◌∙◌}
 use mathlib.Core.List.{List}
-use Prim.Native.Nat.{ℕ, ◌+◌, ◌*◌, ◌≤◌, ◌<◌}
+use Prim.Native.Nat.{ℕ, ◌*◌, ◌≤◌, ◌<◌}
 use native.Mathlib.Omega.{arith}
-use lib.ListN.{length, set, length-set}
-use Rattle.laws.specs.Parts.{pad_to, put_at}
+use lib.ListN.{length, length-set}
+use Rattle.laws.specs.Parts.{pad_to}
 use Rattle.laws.proofs.Parts.{pad-length, put-length}
-use Rattle.table.specs.Room.{Lent, Room}
+use Rattle.table.specs.Room.{Room}
 use Rattle.sparse_vec.specs.Row.{put_row}
-use Rattle.model.specs.Store.{Store, Full, lent_of, held_of}
+use Rattle.model.specs.Store.{Store, lent_of}
 use Rattle.model.specs.Change.{with_row, with_words, with_marks}
 use Rattle.model.proofs.Rows.{Frame, row_fits}
 

@@ -1,27 +1,27 @@
 -- SET on a store: it stays well-formed, and its table is the plain table's. Assumes nothing.
 use mathlib.Core.Path.{◌≡◌, refl, sym, ap, ◌∙◌}
-use mathlib.Core.Bool.{Bool, true, false, not, ◌&&◌, ◌||◌, true≢false, false≢true}
+use mathlib.Core.Bool.{Bool, true, false, not, ◌&&◌}
 use mathlib.Core.Logic.{◌⊎◌, inl, inr, ⊎_elim}
 use mathlib.Core.List.{List}
-use Prim.Native.Nat.{ℕ, ◌+◌, ◌-◌, ◌*◌, ◌≤◌, ◌<◌}
+use Prim.Native.Nat.{ℕ, ◌-◌, ◌≤◌, ◌<◌}
 use native.Mathlib.Omega.{arith}
 use lib.Dec.{ltb, eqb}
 use lib.ListN.{length, get_or}
-use borrow.Author.Tests.{ltb-true, ltb-false, lt-ltb, le-ltb, eqb-true, eqb-false, eq-eqb, ne_eqb}
+use borrow.Author.Tests.{ltb-true, ltb-false, eqb-true, eqb-false, eq-eqb, ne_eqb}
 use Rattle.laws.specs.Plain.{pick}
-use Rattle.laws.specs.Rows.{member, From, put_in, take_out}
+use Rattle.laws.specs.Rows.{member, From}
 use Rattle.laws.specs.Words.{words_for}
 use Rattle.laws.proofs.Bools.{by-test, not-both}
 use Rattle.laws.proofs.Members.{put-member, put-from, take-member, take-from}
 use Rattle.laws.proofs.Maps.{same_test}
 use Rattle.laws.proofs.Parts.{row-end}
-use Rattle.tail.specs.Tail.{tail_bit, tail_put, pad_clear, InRow}
+use Rattle.tail.specs.Tail.{tail_bit, tail_put}
 use Rattle.tail.proofs.Tails.{tail-put, tail-put-length, tail-put-rest, pad-put}
 use Rattle.table.specs.declared.SetCell.{SetCell}
 use Rattle.table.specs.declared.Op.TheVariants.{Set}
 use Rattle.table.specs.Step.{after}
-use Rattle.model.specs.Store.{Store, edge, row, home_row, home_column, logical_column, cell, table_of}
-use Rattle.model.specs.WellFormed.{WellFormed, MapsOk, RowsOk, TailOk, Switched, Limits, Unused, Zero}
+use Rattle.model.specs.Store.{Store, edge, row, home_row, home_column, cell, table_of}
+use Rattle.model.specs.WellFormed.{WellFormed, Switched}
 use Rattle.model.specs.Change.{with_row, with_words, set_row, set_at, set_cell}
 use Rattle.model.proofs.Same.{same-table, pick-off}
 use Rattle.model.proofs.Rows.{frame-of, row_at, with_row-ok, with_words-ok, words-fit}

@@ -1,27 +1,20 @@
 -- SWAPR and SWAPC on a store: it stays well-formed, and its table is the plain table's. Assumes nothing.
 use mathlib.Core.Path.{◌≡◌, refl, sym, ap, ◌∙◌}
-use mathlib.Core.Bool.{Bool, true, false, not, ◌&&◌}
-use mathlib.Core.List.{List}
-use Prim.Native.Nat.{ℕ, ◌-◌, ◌≤◌, ◌<◌}
+use mathlib.Core.Bool.{false, ◌&&◌}
+use Prim.Native.Nat.{ℕ, ◌≤◌, ◌<◌}
 use native.Mathlib.Omega.{arith}
-use lib.Dec.{ltb, eqb}
-use lib.ListN.{length, get_or}
+use lib.Dec.{ltb}
 use borrow.Author.Tests.{ltb-true, ltb-false, lt-ltb, ne_eqb}
-use Rattle.laws.specs.Plain.{pick, exchange}
-use Rattle.laws.specs.Rows.{member}
-use Rattle.laws.specs.Maps.{Inverse}
+use Rattle.laws.specs.Plain.{exchange}
 use Rattle.laws.proofs.Bools.{by-test}
 use Rattle.laws.proofs.Numbers.{exchange-below, exchange-ltb}
-use Rattle.permutation.specs.Maps.{swapped, turned}
 use Rattle.permutation.proofs.Maps.{swapped_at, swapped-past, turned-at, turned-past, exchanged}
-use Rattle.tail.specs.Tail.{tail_bit}
-use Rattle.arraymap.specs.Index.{list_at}
 use Rattle.arraymap.specs.Check.{IndexOk}
 use Rattle.table.specs.declared.Two.{Two}
 use Rattle.table.specs.declared.Op.TheVariants.{SwapR, SwapC}
 use Rattle.table.specs.Step.{after}
-use Rattle.model.specs.Store.{Maps, Store, edge, row, home_row, home_column, logical_column, cell, table_of}
-use Rattle.model.specs.WellFormed.{WellFormed, MapsOk, RowsOk, TailOk, Switched, Limits, Unused}
+use Rattle.model.specs.Store.{Store, edge, row, home_row, home_column, logical_column, cell, table_of}
+use Rattle.model.specs.WellFormed.{WellFormed}
 use Rattle.model.specs.Change.{swap_rows, swap_columns}
 use Rattle.model.proofs.Same.{same-table}
 

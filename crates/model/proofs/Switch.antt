@@ -1,22 +1,20 @@
 -- ON and OFF on a store: it stays well-formed, and its table is the plain table's. Assumes nothing.
-use mathlib.Core.Path.{◌≡◌, refl, sym, ap, ◌∙◌}
+use mathlib.Core.Path.{◌≡◌, refl}
 use mathlib.Core.Bool.{Bool, true, false, not, ◌&&◌}
-use mathlib.Core.List.{List}
-use Prim.Native.Nat.{ℕ, suc, ◌*◌, ◌≤◌, ◌<◌}
+use Prim.Native.Nat.{ℕ, suc, ◌≤◌}
 use native.Mathlib.Omega.{arith}
 use lib.Dec.{ltb, eqb}
 use lib.ListN.{length, get_or}
-use Rattle.laws.specs.Rows.{member}
-use Rattle.laws.specs.Parts.{zeros, joined, row_of}
+use Rattle.laws.specs.Parts.{zeros}
 use Rattle.laws.proofs.Bools.{not-both, and-false}
 use Rattle.laws.proofs.Parts.{zeros-length, zeros-at, joined_length}
-use Rattle.arraymap.specs.Index.{Rows, RowOk, holders, start_of, starts_of, entries_of, ones_of}
+use Rattle.arraymap.specs.Index.{Rows, holders, start_of, ones_of}
 use Rattle.arraymap.proofs.Whole.{ones-total}
 use Rattle.arraymap.proofs.Means.{starts-length, entries-length, built-ok}
 use Rattle.table.specs.declared.Op.TheVariants.{On, Off}
 use Rattle.table.specs.Step.{after}
 use Rattle.model.specs.Store.{Index, Store, edge, row, home_column, table_of}
-use Rattle.model.specs.WellFormed.{WellFormed, MapsOk, RowsOk, TailOk, Switched, Limits, Unused}
+use Rattle.model.specs.WellFormed.{WellFormed, Switched}
 use Rattle.model.specs.Change.{with_index, index_on, index_off}
 use Rattle.model.proofs.Same.{same-table}
 use Rattle.model.proofs.SameRoom.{SameRoom}

@@ -1,23 +1,23 @@
 -- The tail's answers: TAILONES lists and WORDS hands back what the table says. Assumes nothing.
-use mathlib.Core.Path.{◌≡◌, refl, sym, ap, ◌∙◌}
-use mathlib.Core.Bool.{Bool, true, false, ◌&&◌}
+use mathlib.Core.Path.{◌≡◌, sym, ap, ◌∙◌}
+use mathlib.Core.Bool.{true, false}
 use mathlib.Core.List.{List}
 use Prim.Native.Nat.{ℕ, ◌+◌, ◌-◌, ◌*◌, ◌/◌, ◌%◌, ◌^◌, ◌≤◌, ◌<◌}
 use native.Mathlib.Omega.{arith}
-use lib.Dec.{leb, ltb, eqb}
+use lib.Dec.{leb}
 use lib.ListN.{length, get_or}
 use lib.Seq.{ext_get_or}
-use borrow.Author.Tests.{ltb-true, ltb-false, leb-true, leb-false, lt-ltb, le-ltb, le-leb, lt-leb, eqb-true}
-use Rattle.laws.specs.Plain.{pick, select, between}
-use Rattle.laws.specs.Parts.{part, tabled}
-use Rattle.laws.specs.Words.{words_for, padding, digit, value}
+use borrow.Author.Tests.{leb-true, leb-false, lt-ltb, le-ltb, eqb-true}
+use Rattle.laws.specs.Plain.{select, between}
+use Rattle.laws.specs.Parts.{part}
+use Rattle.laws.specs.Words.{words_for, padding, digit}
 use Rattle.laws.proofs.Bools.{by-test}
 use Rattle.laws.proofs.Select.{select-same}
 use Rattle.laws.proofs.Parts.{part_length, part_at, tabled-length, tabled-at}
 use Rattle.tail.specs.Tail.{tail_bit, tail_ones, pad_clear}
 use Rattle.tail.proofs.Digits.{value_same, value_low, value-zero, value-word}
-use Rattle.table.specs.Table.{Table, at_position, tail_word, tail_words}
-use Rattle.model.specs.Store.{Store, edge, home_row, cell, table_of}
+use Rattle.table.specs.Table.{at_position, tail_word, tail_words}
+use Rattle.model.specs.Store.{Store, edge, home_row, table_of}
 use Rattle.model.specs.WellFormed.{WellFormed}
 use Rattle.model.proofs.Rows.{words-fit}
 

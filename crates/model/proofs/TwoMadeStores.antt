@@ -1,35 +1,33 @@
 -- DEMAND 3, from making on: two stores made with the same height, width and tail, the second with at least as much of every room. Assumes nothing.
 use mathlib.Core.Path.{◌≡◌, refl, sym, ap, ◌∙◌, subst}
-use mathlib.Core.Bool.{Bool, true, false, not, ◌&&◌}
-use mathlib.Core.List.{List, [], ◌∷◌, ◌++◌}
-use Prim.Native.Nat.{ℕ, zero, suc, ◌*◌, ◌≤◌}
+use mathlib.Core.Bool.{true, false, not, ◌&&◌}
+use mathlib.Core.List.{List, [], ◌++◌}
+use Prim.Native.Nat.{ℕ, zero, suc, ◌≤◌}
 use native.Mathlib.Omega.{arith}
 use lib.ListN.{length, take}
 use Rattle.laws.specs.Plain.{select}
-use Rattle.laws.specs.Words.{words_for}
-use Rattle.laws.proofs.Bools.{and_second, and-false}
+use Rattle.laws.proofs.Bools.{and_second}
 use Rattle.laws.proofs.Sums.{most-le}
 use Rattle.table.specs.declared.Op.{Op}
 use Rattle.table.specs.declared.Op.TheVariants.{Make}
 use Rattle.table.specs.declared.Sizes.{Sizes}
-use Rattle.table.specs.Refusals.{Check, Verdict, refused, done, outcome}
+use Rattle.table.specs.Refusals.{Verdict, done}
 use Rattle.table.specs.Table.{Table, edge, row_count}
 use Rattle.table.specs.Step as plain
-use Rattle.table.specs.Room.{Room, Held, kind, is_make, room_checks, all_checks, verdict, over, passes}
-use Rattle.table.specs.Run.{Reply, reply_of, replies, final, accepted, empty}
-use Rattle.table.proofs.Checks.{for_room, went}
-use Rattle.table.proofs.Plainly.{NoMake, held}
+use Rattle.table.specs.Room.{Held, room_checks, all_checks, passes}
+use Rattle.table.specs.Run.{Reply, replies, empty}
+use Rattle.table.proofs.Checks.{went}
+use Rattle.table.proofs.Plainly.{NoMake}
 use Rattle.table.proofs.RoomNeverChangesAnAnswer.{Within, until_room}
 use Rattle.table.proofs.Needs.{Fits}
-use Rattle.model.specs.Store.{Store, Full, table_of, lent_of, held_of}
+use Rattle.model.specs.Store.{Full, table_of, lent_of, held_of}
 use Rattle.model.specs.WellFormed.{WellFormed}
 use Rattle.model.specs.Check.{well_formed}
-use Rattle.model.specs.Change.{made}
 use Rattle.model.specs.Step.{full_after, step}
 use Rattle.model.proofs.Make.{CanMake, make-ok, make-means, make-room}
 use Rattle.model.proofs.Passed.{can-make}
 use Rattle.model.proofs.EveryStepIsTheTables.{passes_append}
-use Rattle.model.proofs.TwoStores.{room-never-changes-a-stores-answer, a-store-refuses-exactly}
+use Rattle.model.proofs.TwoStores.{room-never-changes-a-stores-answer}
 
 -- the table just after making
 abbrev pub fresh : Sizes → Table

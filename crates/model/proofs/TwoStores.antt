@@ -1,35 +1,27 @@
 -- DEMAND 3 FOR TWO STORES, in the user's sentences. "Make two stores of the same height, width and tail, both accepted, the second with at least as many
 -- slots and lent at least as much of every other room. Give both the same operations after making, no further MAKE among them, always with the head last
 -- handed back and over the buffers lent at making, nobody else writing to either; the answer buffer counts as room." Assumes nothing.
-use mathlib.Core.Path.{◌≡◌, refl, sym, ap, ◌∙◌, subst}
-use mathlib.Core.Bool.{Bool, true, false, ◌&&◌}
+use mathlib.Core.Path.{◌≡◌, refl, sym, ap, ◌∙◌}
+use mathlib.Core.Bool.{Bool, false, ◌&&◌}
 use mathlib.Core.List.{List, [], ◌∷◌, ◌++◌}
-use Prim.Native.Nat.{ℕ, zero, suc, ◌*◌, ◌≤◌}
-use native.Mathlib.Omega.{arith}
-use lib.ListN.{length, take}
-use Rattle.laws.specs.Plain.{most_of, sum_of, pick}
-use Rattle.laws.specs.Words.{words_for}
-use Rattle.laws.proofs.Sums.{most-le}
+use Prim.Native.Nat.{ℕ}
+use lib.ListN.{take}
 use Rattle.table.specs.declared.Op.{Op}
-use Rattle.table.specs.declared.Op.TheVariants.{Make}
-use Rattle.table.specs.declared.Sizes.{Sizes}
 use Rattle.table.specs.Refusals.{Verdict, refused, done}
-use Rattle.table.specs.Table.{Table, row_count, need_slots, need_words, need_entries}
+use Rattle.table.specs.Table.{Table}
 use Rattle.table.specs.Step as plain
-use Rattle.table.specs.Room.{Room, Held, kind, is_make, verdict, call, over, passes}
-use Rattle.table.specs.Run.{Reply, nay, reply_of, kept, replies, final, accepted, empty}
+use Rattle.table.specs.Room.{Held, kind, is_make, verdict, call, over, passes}
+use Rattle.table.specs.Run.{Reply, nay, reply_of, kept, replies, final, accepted}
 use Rattle.table.proofs.Checks.{for_room}
 use Rattle.table.proofs.Plainly.{NoMake, held}
 use Rattle.table.proofs.RoomNeverChangesAnAnswer.{Within, until_room, room-never-changes-an-answer}
 use Rattle.table.proofs.RefusesExactly.{refuses-exactly}
 use Rattle.table.proofs.Needs.{Fits}
 use Rattle.table.proofs.Struck.{struck}
-use Rattle.model.specs.Store.{Store, Full, table_of, held_of}
+use Rattle.model.specs.Store.{Full, table_of, held_of}
 use Rattle.model.specs.WellFormed.{WellFormed}
-use Rattle.model.specs.Check.{well_formed}
 use Rattle.model.specs.Step.{step}
 use Rattle.model.proofs.Check.{check-complete}
-use Rattle.model.proofs.Walk.{row_count_lem, all_ones_lem}
 use Rattle.model.proofs.EveryStepIsTheTables.{as_held, every-step-is-the-tables, step_keeps}
 
 -- ---- a store answers as its table does in its room

@@ -1,14 +1,14 @@
 -- The walk along a home row is what the table lists by rising home number: ITER, COUNT, and how many sparse ones a row has. Assumes nothing.
 use mathlib.Core.Path.{◌≡◌, refl, sym, ap, ◌∙◌}
-use mathlib.Core.Bool.{Bool, true, false, not, ◌&&◌, ◌||◌, false≢true}
+use mathlib.Core.Bool.{Bool, true, false, ◌&&◌, ◌||◌}
 use mathlib.Core.List.{List, [], ◌∷◌}
-use Prim.Native.Nat.{ℕ, zero, suc, ◌+◌, ◌-◌, ◌≤◌, ◌<◌}
+use Prim.Native.Nat.{ℕ, suc, ◌+◌, ◌-◌, ◌≤◌, ◌<◌}
 use native.Mathlib.Omega.{arith}
 use native.Mathlib.Nat.{sub-zero}
 use lib.Dec.{leb, ltb, eqb}
 use lib.ListN.{length, get_or}
-use borrow.Author.Tests.{ltb-true, ltb-false, leb-true, leb-false, lt-ltb, le-ltb, le-leb, eqb-true, eqb-false, eq-eqb, ne_eqb}
-use Rattle.laws.specs.Plain.{pick, keep, select, between, sum_of}
+use borrow.Author.Tests.{ltb-true, ltb-false, leb-true, lt-ltb, le-ltb, le-leb, eqb-true, eqb-false, eq-eqb, ne_eqb}
+use Rattle.laws.specs.Plain.{pick, keep, select, between}
 use Rattle.laws.specs.Rows.{member, From}
 use Rattle.laws.proofs.Bools.{by-test, not-both, and-false}
 use Rattle.laws.proofs.Members.{member-head, member-later}
@@ -17,12 +17,10 @@ use Rattle.laws.proofs.Maps.{mapped-sum}
 use Rattle.laws.proofs.Select.{keep-member, select-same, select-member, select-from, count_same}
 use Rattle.sparse_vec.specs.Row.{walked}
 use Rattle.arraymap.specs.Index.{ones_of}
-use Rattle.table.specs.declared.RowRange.{RowRange}
-use Rattle.table.specs.declared.Op.TheVariants.{Count, Iter}
-use Rattle.table.specs.Table.{Table, sparse_ones, row_count, all_ones}
-use Rattle.table.specs.Step.{answer, insert_by, sort_by, not_single}
+use Rattle.table.specs.Table.{row_count, all_ones}
+use Rattle.table.specs.Step.{sort_by}
 use Rattle.table.proofs.Sorting.{RisingBy, sort-member, sort-rising, sort-length, apart_of, same-by-key}
-use Rattle.model.specs.Store.{Store, edge, row, home_row, home_column, logical_column, cell, table_of}
+use Rattle.model.specs.Store.{Store, edge, row, home_row, home_column, logical_column, table_of}
 use Rattle.model.specs.WellFormed.{WellFormed}
 use Rattle.model.proofs.Rows.{frame-of, row-length}
 

@@ -1,5 +1,5 @@
 -- What each accepted operation does to the lists of a store. Assumes nothing.
-use Rattle.std.specs.Prelude.{Bool, true, false, ◌&&◌, not, List, [], ◌∷◌, ℕ, zero, suc, ◌-◌, ◌*◌, ltb, eqb, length, get_or, set}
+use Rattle.std.specs.Prelude.{Bool, true, false, not, List, [], ◌∷◌, ℕ, zero, suc, ◌-◌, ◌*◌, ltb, eqb, length, set}
 use Rattle.laws.specs.Plain.{pick}
 use Rattle.laws.specs.Rows.{member, xor_merge, put_in, take_out}
 use Rattle.laws.specs.Parts.{zeros, part, put_at}
@@ -13,7 +13,7 @@ use Rattle.table.specs.declared.SetCell.{SetCell}
 use Rattle.table.specs.declared.Two.{Two}
 use Rattle.table.specs.declared.Addition.{Addition}
 use Rattle.table.specs.declared.Shape.{Shape}
-use Rattle.model.specs.Store.{Head, Slots, Maps, Index, Store, edge, row, home_row, home_column}
+use Rattle.model.specs.Store.{Index, Store, edge, row, home_row, home_column}
 
 -- ---- parts of a store replaced
 

@@ -1,5 +1,5 @@
 -- The store check, as a test that code can compute: true exactly on well-formed stores (proofs/Check). Assumes nothing.
-use Rattle.std.specs.Prelude.{Bool, true, false, ◌&&◌, ℕ, suc, ◌+◌, ◌*◌, leb, length, get_or, take}
+use Rattle.std.specs.Prelude.{Bool, ◌&&◌, ℕ, suc, ◌*◌, leb, length, get_or, take}
 use Rattle.laws.specs.Plain.{pick}
 use Rattle.laws.specs.Parts.{part}
 use Rattle.laws.specs.Tests.{all_below, zero_from}

@@ -1,5 +1,5 @@
 -- One call on a store and its answer buffer: refused by the table's own checks at the store's room, or changed and answered. Assumes nothing.
-use Rattle.std.specs.Prelude.{Bool, true, false, List, ℕ}
+use Rattle.std.specs.Prelude.{true, List, ℕ}
 use Rattle.laws.specs.Parts.{over}
 use Rattle.table.specs.declared.Op.{Op}
 use Rattle.table.specs.declared.Op.TheVariants.{Make, Set, SwapR, SwapC, Add, On, Off, Freeze, Resize, Get, Count, Words, TailOnes, Iter, ColOnes, Size}

@@ -1,8 +1,8 @@
 -- One sparse row in a stretch of the lent slot entries: `len` strictly rising home columns from place `at` on, zeros up to `cap` places. Assumes nothing.
-use Rattle.std.specs.Prelude.{◌≡◌, Bool, true, false, ◌&&◌, ◌⊎◌, List, [], ◌∷◌, ◌++◌, ℕ, zero, suc, ◌+◌, ◌-◌, ◌*◌, ◌≤◌, ◌<◌, leb, ltb, eqb, length, get_or, take, drop}
+use Rattle.std.specs.Prelude.{◌≡◌, Bool, true, ◌&&◌, ◌⊎◌, List, [], ◌∷◌, ℕ, zero, suc, ◌+◌, ◌≤◌, ◌<◌, leb, ltb, length, get_or}
 use Rattle.laws.specs.Plain.{pick, keep}
-use Rattle.laws.specs.Rows.{member, From, Rising, xor_merge, put_in, take_out}
-use Rattle.laws.specs.Parts.{part, put_at, pad_to, zeros, over}
+use Rattle.laws.specs.Rows.{member, Rising, xor_merge, put_in}
+use Rattle.laws.specs.Parts.{part, put_at, pad_to}
 use Rattle.sparse_vec.specs.declared.Found.{Found}
 use Rattle.sparse_vec.specs.declared.Found.TheVariants.{At, Insert}
 use Rattle.sparse_vec.specs.declared.Sum.{Sum}

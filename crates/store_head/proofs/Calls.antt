@@ -1,13 +1,13 @@
 -- A public call checks the store: a damaged one is refused with 1, else the call is its inner twin. Assumes nothing.
 use mathlib.Core.Path.{◌≡◌, refl, sym, ap, ◌∙◌}
-use mathlib.Core.Bool.{Bool, true, false, not, ◌&&◌}
+use mathlib.Core.Bool.{Bool, true, false}
 use mathlib.Core.List.{List, []}
 use Prim.Native.Nat.{ℕ}
 use Rattle.table.specs.declared.Op.{Op}
-use Rattle.table.specs.Refusals.{Check, Verdict, refused, done, outcome}
+use Rattle.table.specs.Refusals.{Check, refused, done, outcome}
 use Rattle.table.specs.Step.{answer}
 use Rattle.table.specs.Room.{Held, kind, is_make, all_checks}
-use Rattle.table.specs.Run.{Reply, ok, nay, reply_of}
+use Rattle.table.specs.Run.{Reply, nay, reply_of}
 use Rattle.model.specs.Store.{Store, Full, table_of, held_of}
 use Rattle.model.specs.WellFormed.{WellFormed}
 use Rattle.model.specs.Check.{well_formed}

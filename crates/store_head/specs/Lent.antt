@@ -1,5 +1,5 @@
 -- The head and the lent slices as the model's store. Assumes nothing.
-use Rattle.std.specs.Prelude.{Bool, List, [], ℕ}
+use Rattle.std.specs.Prelude.{List, [], ℕ}
 use Rattle.model.specs.Store as model
 use Rattle.store_head.specs.declared.Numbers.{Numbers}
 

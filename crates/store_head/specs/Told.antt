@@ -1,5 +1,5 @@
 -- What an answer of the code says, in 01's words: for each of its cases the number of a refusal, or the values. Assumes nothing.
-use Rattle.std.specs.Prelude.{Bool, true, false, List, [], ◌∷◌, ℕ}
+use Rattle.std.specs.Prelude.{List, [], ◌∷◌, ℕ}
 use Rattle.laws.specs.Parts.{stretch}
 use Rattle.table.specs.Run.{Reply, ok, nay}
 use Rattle.model.specs.Store as model
@@ -13,7 +13,7 @@ use Rattle.store_head.specs.declared.Listed.{Listed}
 use Rattle.store_head.specs.declared.Listed.TheVariants as listed
 use Rattle.store_head.specs.declared.Sized.{Sized}
 use Rattle.store_head.specs.declared.Sized.TheVariants as sized
-use Rattle.store_head.specs.Lent.{store_of, full_of}
+use Rattle.store_head.specs.Lent.{full_of}
 
 -- GET, COUNT: one number
 abbrev pub number_says : Number → Reply

@@ -1,5 +1,4 @@
 -- `arraymap::check::list_exact` meets its contract. Assumes nothing.
-use Prim.Native.Nat.{◌-◌}
 use native.Mathlib.Omega.{arith}
 use Rattle.laws.proofs.Passes.{passed_start, passed-more, passed-fails, passed-done}
 use Rattle.arraymap.proofs.Tests.{row-rising, below_at, holds-is}

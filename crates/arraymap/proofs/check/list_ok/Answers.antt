@@ -1,5 +1,4 @@
 -- `arraymap::check::list_ok` meets its contract. Assumes nothing.
-use Prim.Native.Nat.{◌-◌}
 use native.Mathlib.Omega.{arith}
 use Rattle.arraymap.proofs.Tests.{rises-start, rises-low, rises-high, rises-more, rises-done}
 use Rattle.arraymap.proofs.check.list_ok.Goals as goal

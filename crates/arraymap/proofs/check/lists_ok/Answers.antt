@@ -1,8 +1,6 @@
 -- `arraymap::check::lists_ok` meets its contract. Assumes nothing.
-use Prim.Native.Nat.{◌-◌}
 use native.Mathlib.Omega.{arith}
 use Rattle.laws.proofs.Passes.{passed_start, passed-more, passed-fails, passed-done}
-use Rattle.arraymap.specs.Check.{list_ok}
 use Rattle.arraymap.proofs.Tests.{span-list, ok-is}
 use Rattle.arraymap.proofs.check.lists_ok.Goals as goal
 

@@ -1,5 +1,4 @@
 -- `arraymap::check::row_listed` meets its contract. Assumes nothing.
-use Prim.Native.Nat.{◌-◌}
 use native.Mathlib.Omega.{arith}
 use Rattle.laws.proofs.Passes.{passed_start, passed-more, passed-fails, passed-done}
 use Rattle.arraymap.proofs.Tests.{span-list, column-in, list-rising, listed-is}

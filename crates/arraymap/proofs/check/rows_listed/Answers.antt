@@ -1,8 +1,6 @@
 -- `arraymap::check::rows_listed` meets its contract. Assumes nothing.
-use Prim.Native.Nat.{◌-◌}
 use native.Mathlib.Omega.{arith}
 use Rattle.laws.proofs.Passes.{passed_start, passed-more, passed-fails, passed-done}
-use Rattle.arraymap.specs.Check.{row_listed}
 use Rattle.arraymap.proofs.Tests.{row_ok, row-listed-is}
 use Rattle.arraymap.proofs.check.rows_listed.Goals as goal
 

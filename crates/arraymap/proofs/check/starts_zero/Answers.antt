@@ -1,5 +1,4 @@
 -- `arraymap::check::starts_zero` meets its contract. Assumes nothing.
-use Prim.Native.Nat.{◌-◌}
 use native.Mathlib.Omega.{arith}
 use Rattle.laws.proofs.Passes.{passed-more, zero-here, zero-not}
 use Rattle.arraymap.proofs.Tests.{zero-start, zero-fails, zero-done}

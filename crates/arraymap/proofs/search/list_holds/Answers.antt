@@ -1,5 +1,4 @@
 -- `arraymap::search::list_holds` meets its contract. Assumes nothing.
-use Prim.Native.Nat.{◌-◌}
 use mathlib.Core.Path.{refl}
 use native.Mathlib.Omega.{arith}
 use Rattle.arraymap.proofs.Seeking.{seek-start, seek_found, seek-up, seek-down, seek-none}

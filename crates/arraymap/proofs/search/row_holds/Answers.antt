@@ -1,5 +1,4 @@
 -- `arraymap::search::row_holds` meets its contract. Assumes nothing.
-use Prim.Native.Nat.{◌-◌}
 use native.Mathlib.Omega.{arith}
 use Rattle.arraymap.proofs.Seeking.{seek-start, seek_found, seek-up, seek-down, seek-none}
 use Rattle.arraymap.proofs.search.row_holds.Goals as goal

@@ -1,6 +1,5 @@
 -- `permutation::columns::leads_back` meets its contract. Assumes nothing.
 use mathlib.Core.Path.{sym, ◌∙◌}
-use Prim.Native.Nat.{◌-◌}
 use native.Mathlib.Omega.{arith}
 use Rattle.permutation.proofs.Inverse.{short-f, short-g, look-start, can-look, look-more, look-fails, look-done}
 use Rattle.permutation.proofs.columns.leads_back.Goals as goal

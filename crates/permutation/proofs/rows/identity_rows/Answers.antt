@@ -1,5 +1,4 @@
 -- `permutation::rows::identity_rows` meets its contract. Assumes nothing.
-use Prim.Native.Nat.{◌-◌}
 use native.Mathlib.Omega.{arith}
 use Rattle.laws.proofs.Filling.{fill_done}
 use Rattle.permutation.proofs.Identity.{number-start, number_more}

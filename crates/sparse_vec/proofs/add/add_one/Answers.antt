@@ -1,9 +1,6 @@
 -- `sparse_vec::add::add_one` meets its contract. Assumes nothing.
 use Rattle.sparse_vec.proofs.Answers.{at_in, insert-in, one_out, one_in, one-full}
-use mathlib.Core.Path.{◌≡◌, sym, ◌∙◌}
-use Rattle.laws.specs.Parts.{part}
 use Rattle.laws.proofs.Parts.{part-is}
-use Rattle.sparse_vec.specs.Row.{find_of}
 use native.Mathlib.Omega.{arith}
 use Rattle.sparse_vec.proofs.add.add_one.Goals as goal
 

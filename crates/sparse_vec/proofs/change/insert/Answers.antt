@@ -1,9 +1,6 @@
 -- `sparse_vec::change::insert` meets its contract. Assumes nothing.
 use Rattle.sparse_vec.proofs.Answers.{insert-in, insert-old, insert-room, insert-new}
-use mathlib.Core.Path.{◌≡◌, sym, ◌∙◌}
-use Rattle.laws.specs.Parts.{part}
 use Rattle.laws.proofs.Parts.{part-is}
-use Rattle.sparse_vec.specs.Row.{find_of}
 use native.Mathlib.Omega.{arith}
 use Rattle.sparse_vec.proofs.change.insert.Goals as goal
 

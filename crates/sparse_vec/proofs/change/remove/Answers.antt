@@ -1,9 +1,6 @@
 -- `sparse_vec::change::remove` meets its contract. Assumes nothing.
 use Rattle.sparse_vec.proofs.Answers.{at_in, remove-old, remove-none}
-use mathlib.Core.Path.{◌≡◌, sym, ◌∙◌}
-use Rattle.laws.specs.Parts.{part}
 use Rattle.laws.proofs.Parts.{part-is}
-use Rattle.sparse_vec.specs.Row.{find_of}
 use native.Mathlib.Omega.{arith}
 use Rattle.sparse_vec.proofs.change.remove.Goals as goal
 

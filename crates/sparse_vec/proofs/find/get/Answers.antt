@@ -1,6 +1,6 @@
 -- `sparse_vec::find::get` meets its contract. Assumes nothing.
 use Rattle.sparse_vec.proofs.Finding.{found_at, found-insert}
-use mathlib.Core.Path.{sym, ◌∙◌}
+use mathlib.Core.Path.{sym}
 use Rattle.sparse_vec.proofs.find.get.Goals as goal
 
 pub returns-in-At : goal.returns-in-At

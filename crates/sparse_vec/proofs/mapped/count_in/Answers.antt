@@ -1,8 +1,7 @@
 -- `sparse_vec::mapped::count_in` meets its contract. Assumes nothing.
 use Rattle.sparse_vec.proofs.Walking.{seen_start, seen-in, seen-out, seen_all}
-use mathlib.Core.Logic.{inl, inr, ⊎_elim}
+use mathlib.Core.Logic.{inl, inr}
 use borrow.Author.Tests.{ltb-true, ltb-false}
-use Prim.Native.Nat.{◌-◌}
 use native.Mathlib.Omega.{arith}
 use Rattle.sparse_vec.proofs.mapped.count_in.Goals.{then-a-c+then-c-b, else-a-c, else-a-c-via-then-a-c+else-c-b, else-a-c-via-else-a-c}
 use Rattle.sparse_vec.proofs.mapped.count_in.Goals as goal
@@ -18,10 +17,12 @@ bounds-logical-z c = omega (arith, c.requires.low c.loop-i.i (omega arith), c.pl
 
 pub loop-i-preserved : goal.loop-i-preserved
 loop-i-preserved c = let z = c.place-z.ensures in let k = c.number-c.ensures in elim c.if-a-c.branch [
-    then-a-c+then-c-b v ↦ seen-in _ _ _ _ _ _ c.loop-i.invariant _ _ (omega arith) z k (omega arith) (omega (arith, ltb-true)) _ v.n-is
-    | else-a-c v ↦ seen-out _ _ _ _ _ _ c.loop-i.invariant _ _ (omega arith) z k _ v.n-is (elim v.else-a-c.branch [
-        else-a-c-via-then-a-c+else-c-b u ↦ inr (omega (arith, ltb-false))
-        | else-a-c-via-else-a-c u ↦ inl (omega arith) ]) ]
+  | then-a-c+then-c-b v ↦ seen-in _ _ _ _ _ _ c.loop-i.invariant _ _ (omega arith) z k (omega arith) (omega (arith, ltb-true)) _ v.n-is
+  | else-a-c v ↦ seen-out _ _ _ _ _ _ c.loop-i.invariant _ _ (omega arith) z k _ v.n-is (elim v.else-a-c.branch [
+    | else-a-c-via-then-a-c+else-c-b u ↦ inr (omega (arith, ltb-false))
+    | else-a-c-via-else-a-c u ↦ inl (omega arith)
+  ])
+]
 
 pub returns : goal.returns
 returns c = seen_all _ _ _ _ _ _ c.loop-i.invariant (omega arith)

@@ -1,9 +1,8 @@
 -- `sparse_vec::mapped::retain` meets its contract. Assumes nothing.
 use Rattle.sparse_vec.proofs.Keeping.{keeping_start, keeping-mapped, keeping-in, keeping-out, keeping-clear, keeping-done}
-use mathlib.Core.Logic.{⊎_elim}
 use mathlib.Core.Path.{sym, ap, ◌∙◌}
 use lib.ListN.{set}
-use Prim.Native.Nat.{ℕ, ◌+◌, ◌-◌}
+use Prim.Native.Nat.{ℕ, ◌+◌}
 use native.Mathlib.Omega.{arith}
 use Rattle.sparse_vec.proofs.mapped.retain.Goals.{then-number-w, else-number-w}
 use Rattle.sparse_vec.proofs.mapped.retain.Goals as goal
@@ -19,8 +18,9 @@ bounds-logical-z c = keeping-mapped _ _ _ _ _ _ c.requires _ _ _ c.loop-i.invari
 
 pub loop-i-preserved : goal.loop-i-preserved
 loop-i-preserved c = let p = c.requires in let z = c.place-z.ensures in let k = c.number.ensures in elim c.if-number-w.branch [
-    then-number-w v ↦ keeping-in _ _ _ _ _ _ p _ _ _ c.loop-i.invariant _ _ (omega arith) z k (omega arith) _ _ (v.slots-is ∙ ap (λ (y : ℕ). set c.loop-i.slots (c.args.at + c.loop-i.n) y) (sym z)) v.n-is
-    | else-number-w v ↦ keeping-out _ _ _ _ _ _ p _ _ _ c.loop-i.invariant _ _ (omega arith) z k _ _ v.slots-is v.n-is (omega arith) ]
+  | then-number-w v ↦ keeping-in _ _ _ _ _ _ p _ _ _ c.loop-i.invariant _ _ (omega arith) z k (omega arith) _ _ (v.slots-is ∙ ap (λ (y : ℕ). set c.loop-i.slots (c.args.at + c.loop-i.n) y) (sym z)) v.n-is
+  | else-number-w v ↦ keeping-out _ _ _ _ _ _ p _ _ _ c.loop-i.invariant _ _ (omega arith) z k _ _ v.slots-is v.n-is (omega arith)
+]
 
 pub clear-requires : goal.clear-requires
 clear-requires c = keeping-clear _ _ _ _ _ _ c.requires _ _ _ c.loop-i.invariant

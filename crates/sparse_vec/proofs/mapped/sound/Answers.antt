@@ -1,8 +1,6 @@
 -- `sparse_vec::mapped::sound` meets its contract. Assumes nothing.
 use Rattle.sparse_vec.proofs.Keeping.{tested-start, tested_low, tested-out, tested-high, tested-more, tested-done}
-use mathlib.Core.Logic.{⊎_elim}
 use borrow.Author.Tests.{leb-true, leb-false}
-use Prim.Native.Nat.{◌-◌}
 use native.Mathlib.Omega.{arith}
 use Rattle.sparse_vec.proofs.mapped.sound.Goals.{then-z-lo-via-then-z-lo, then-z-lo-via-else-z-lo+then-logical-z}
 use Rattle.sparse_vec.proofs.mapped.sound.Goals as goal
@@ -12,8 +10,9 @@ loop-i-init c = tested-start _ _ _
 
 pub returns-then-z-lo : goal.returns-then-z-lo
 returns-then-z-lo c = let z = c.place-z.ensures in elim c.then-z-lo.branch [
-    then-z-lo-via-then-z-lo v ↦ tested_low _ _ _ _ _ c.loop-i.invariant _ (omega arith) z (omega arith)
-    | then-z-lo-via-else-z-lo+then-logical-z v ↦ tested-out _ _ _ _ _ c.loop-i.invariant _ (omega arith) z (omega (arith, leb-true)) ]
+  | then-z-lo-via-then-z-lo v ↦ tested_low _ _ _ _ _ c.loop-i.invariant _ (omega arith) z (omega arith)
+  | then-z-lo-via-else-z-lo+then-logical-z v ↦ tested-out _ _ _ _ _ c.loop-i.invariant _ (omega arith) z (omega (arith, leb-true))
+]
 
 pub bounds-logical-z : goal.bounds-logical-z
 bounds-logical-z c = omega (arith, leb-false)

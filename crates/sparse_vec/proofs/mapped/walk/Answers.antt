@@ -1,8 +1,7 @@
 -- `sparse_vec::mapped::walk` meets its contract. Assumes nothing.
 use Rattle.sparse_vec.proofs.Walking.{listing_start, listing-in, listing-out, listing-room, listing-done}
-use mathlib.Core.Logic.{inl, inr, ⊎_elim}
+use mathlib.Core.Logic.{inl, inr}
 use borrow.Author.Tests.{ltb-true, ltb-false}
-use Prim.Native.Nat.{◌-◌}
 use native.Mathlib.Omega.{arith}
 use Rattle.sparse_vec.proofs.mapped.walk.Goals.{then-a-c+then-c-b, else-a-c, else-a-c-via-then-a-c+else-c-b, else-a-c-via-else-a-c}
 use Rattle.sparse_vec.proofs.mapped.walk.Goals as goal
@@ -21,10 +20,12 @@ bounds-answers-n c = listing-room _ _ _ _ _ c.requires _ _ _ c.loop-i.invariant 
 
 pub loop-i-preserved : goal.loop-i-preserved
 loop-i-preserved c = let p = c.requires in let z = c.place-z.ensures in let k = c.number-c.ensures in elim c.if-a-c.branch [
-    then-a-c+then-c-b v ↦ listing-in _ _ _ _ _ p _ _ _ c.loop-i.invariant _ _ (omega arith) z k _ _ v.answers-is v.n-is (omega arith) (omega (arith, ltb-true))
-    | else-a-c v ↦ listing-out _ _ _ _ _ p _ _ _ c.loop-i.invariant _ _ (omega arith) z k _ _ v.answers-is v.n-is (elim v.else-a-c.branch [
-        else-a-c-via-then-a-c+else-c-b u ↦ inr (omega (arith, ltb-false))
-        | else-a-c-via-else-a-c u ↦ inl (omega arith) ]) ]
+  | then-a-c+then-c-b v ↦ listing-in _ _ _ _ _ p _ _ _ c.loop-i.invariant _ _ (omega arith) z k _ _ v.answers-is v.n-is (omega arith) (omega (arith, ltb-true))
+  | else-a-c v ↦ listing-out _ _ _ _ _ p _ _ _ c.loop-i.invariant _ _ (omega arith) z k _ _ v.answers-is v.n-is (elim v.else-a-c.branch [
+    | else-a-c-via-then-a-c+else-c-b u ↦ inr (omega (arith, ltb-false))
+    | else-a-c-via-else-a-c u ↦ inl (omega arith)
+  ])
+]
 
 pub returns : goal.returns
 returns c = listing-done _ _ _ _ _ c.requires _ _ _ c.loop-i.invariant (omega arith)

@@ -4,7 +4,7 @@ use lib.Dec.{leb, eqb}
 use mathlib.Core.Bool.{not}
 use borrow.Author.Tests.{ltb-true, ltb-false}
 use Rattle.sparse_vec.proofs.Forward.{merging_start, merging-more, merging-done}
-use Prim.Native.Nat.{◌+◌, ◌-◌}
+use Prim.Native.Nat.{◌+◌}
 use mathlib.Core.Path.{refl}
 use mathlib.Core.Logic.{inl, inr}
 use Rattle.sparse_vec.proofs.Steps.{step_fits, step_falls}

@@ -1,7 +1,7 @@
 -- `sparse_vec::passes::merge_on` meets its contract. Assumes nothing.
 use Rattle.sparse_vec.proofs.Settling.{on-start, on-rest, on-pass, on-falls, on-lt, on-eq, on-gt, on-right, on_room, on-bring, on-brought, on-end}
 use Rattle.sparse_vec.proofs.Steps.{step_fits}
-use Prim.Native.Nat.{◌+◌, ◌-◌}
+use Prim.Native.Nat.{◌+◌}
 use lib.ListN.{get_or}
 use lib.Dec.{leb, eqb}
 use mathlib.Core.Bool.{not}

@@ -1,6 +1,6 @@
 -- `sparse_vec::passes::merge_up` meets its contract. Assumes nothing.
 use Rattle.sparse_vec.proofs.Laying.{Up}
-use Prim.Native.Nat.{◌+◌, ◌-◌}
+use Prim.Native.Nat.{◌+◌}
 use Rattle.sparse_vec.proofs.passes.merge_up.Given as goal
 
 abbrev pub invariant-loop-j : goal.invariant-loop-j

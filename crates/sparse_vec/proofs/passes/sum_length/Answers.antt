@@ -1,10 +1,10 @@
 -- `sparse_vec::passes::sum_length` meets its contract. Assumes nothing.
-use mathlib.Core.Logic.{inl, inr, ⊎_elim}
+use mathlib.Core.Logic.{inl, inr}
 use lib.ListN.{length, get_or}
 use lib.Dec.{leb, eqb}
 use mathlib.Core.Bool.{not}
 use Rattle.sparse_vec.proofs.Steps.{step_fits, step_falls, counted_start, counted-more, counted-done}
-use Prim.Native.Nat.{◌+◌, ◌-◌}
+use Prim.Native.Nat.{◌+◌}
 use borrow.Author.Tests.{ltb-true, ltb-false}
 use native.Mathlib.Omega.{arith}
 use Rattle.sparse_vec.proofs.passes.sum_length.Goals.{then-loop-i-test+else-j-sl, else-loop-i-test}

@@ -1,6 +1,5 @@
 -- `sparse_vec::run::bring` meets its contract. Assumes nothing.
 use Rattle.sparse_vec.proofs.Filled.{filled-done, bring-start, bring-more}
-use Prim.Native.Nat.{◌-◌}
 use native.Mathlib.Omega.{arith}
 use Rattle.sparse_vec.proofs.run.bring.Goals as goal
 

@@ -1,6 +1,5 @@
 -- `sparse_vec::run::clear` meets its contract. Assumes nothing.
 use Rattle.sparse_vec.proofs.Filled.{filled-done, clear-start, clear-more}
-use Prim.Native.Nat.{◌-◌}
 use mathlib.Core.Path.{refl}
 use native.Mathlib.Omega.{arith}
 use borrow.Author.Rules.{rules}

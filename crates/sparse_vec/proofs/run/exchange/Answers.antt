@@ -1,7 +1,6 @@
 -- `sparse_vec::run::exchange` meets its contract. Assumes nothing.
 use lib.ListN.{length-set}
 use Rattle.sparse_vec.proofs.Filled.{exchange-start, exchange-more, exchange-done}
-use Prim.Native.Nat.{◌-◌}
 use native.Mathlib.Omega.{arith}
 use Rattle.sparse_vec.proofs.run.exchange.Goals as goal
 

@@ -1,5 +1,5 @@
 -- `count` meets its contract: the words before j are counted. Assumes nothing.
-use Prim.Native.Nat.{◌+◌, ◌-◌, ◌*◌, ◌/◌, ◌^◌}
+use Prim.Native.Nat.{◌+◌, ◌*◌, ◌/◌, ◌^◌}
 use native.Mathlib.Omega.{arith}
 use lib.Count.{ones}
 use lib.ListN.{get_or}

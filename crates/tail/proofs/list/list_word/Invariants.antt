@@ -1,5 +1,5 @@
 -- `list_word` meets its contract: the ones of w are still to be listed, from place next on. Assumes nothing.
-use Prim.Native.Nat.{◌-◌, ◌^◌, ◌<◌}
+use Prim.Native.Nat.{◌^◌, ◌<◌}
 use Rattle.tail.specs.Ones.{word_ones, Fits32}
 use Rattle.tail.proofs.WordOnes.{Listing}
 use Rattle.tail.proofs.list.list_word.Given as goal

@@ -1,5 +1,4 @@
 -- `ones` meets its contract: the ones of the words before j are listed. Assumes nothing.
-use Prim.Native.Nat.{◌-◌}
 use native.Mathlib.Omega.{arith}
 use Rattle.tail.proofs.WordOnes.{writing_start, writing-can, writing_more, writing-wide, writing-end}
 use Rattle.tail.proofs.list.ones.Goals as goal

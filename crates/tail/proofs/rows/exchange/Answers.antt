@@ -1,5 +1,4 @@
 -- `exchange` meets its contract: the first i words of the two stretches have changed places. Assumes nothing.
-use Prim.Native.Nat.{◌-◌}
 use native.Mathlib.Omega.{arith}
 use lib.ListN.{length-set}
 use Rattle.tail.proofs.Runs.{exchange-start, exchange-more, exchange-done}

@@ -1,5 +1,4 @@
 -- `xor_rows` meets its contract: the first i words of row dst are done. Assumes nothing.
-use Prim.Native.Nat.{◌-◌}
 use native.Mathlib.Omega.{arith}
 use Rattle.tail.proofs.Runs.{xor-start, xor-more, xor-done}
 use Rattle.tail.proofs.rows.xor_rows.Goals as goal

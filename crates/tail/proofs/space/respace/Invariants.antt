@@ -1,5 +1,5 @@
 -- `respace` meets its contract: the rows from y on are re-spaced. Assumes nothing.
-use Prim.Native.Nat.{◌+◌, ◌-◌, ◌*◌, ◌≤◌}
+use Prim.Native.Nat.{◌+◌, ◌*◌, ◌≤◌}
 use mathlib.Core.Path.{◌≡◌}
 use Rattle.tail.specs.Runs.{spaced}
 use Rattle.tail.proofs.Runs.{Between}
