@@ -10,7 +10,7 @@ use Rattle.permutation.specs.Maps.{CanSwap, swapped, turned}
 use Rattle.table.specs.declared.Two.{Two}
 use Rattle.table.specs.declared.Op.TheVariants.{SwapR, SwapC}
 use Rattle.table.specs.Room.{all_checks}
-use Rattle.model.specs.Store.{Head, Store, Maps, edge, held_of}
+use Rattle.model.specs.Store.{Store, Maps, edge, held_of}
 use Rattle.model.specs.WellFormed.{WellFormed}
 use Rattle.model.specs.Step.{full_after, inner}
 use Rattle.model.proofs.Passed.{can-swapr, can-swapc}

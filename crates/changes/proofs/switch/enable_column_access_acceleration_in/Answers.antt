@@ -1,16 +1,10 @@
 use Rattle.changes.proofs.switch.enable_column_access_acceleration_in.Goals as goal
-
 -- `changes::switch::enable_column_access_acceleration_in` meets its contract. Assumes nothing.
 -- `changes::switch::enable_column_access_acceleration_in` meets its contract. Assumes nothing.
 use native.Mathlib.Omega.{arith}
-use borrow.Author.Rules.{rules}
 use mathlib.Core.Path.{refl, sym, ◌∙◌}
 use Rattle.store_head.proofs.Refuses.{refuses}
 use Rattle.changes.proofs.Switches.{marks-in, can-build, on_room, on-done}
-use Rattle.changes.proofs.switch.enable_column_access_acceleration_in.Statement.{
-  statement,
-}
-use Rattle.changes.proofs.switch.enable_column_access_acceleration_in.Tie as tie
 
 pub returns-then-no-ne0 : goal.returns-then-no-ne0
 returns-then-no-ne0 c = refuses _ _ _ c.refuse_on-no.ensures c.if-no-ne0.true

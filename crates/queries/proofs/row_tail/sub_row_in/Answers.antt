@@ -1,6 +1,4 @@
 -- `sparse_matrix::Head::sub_row` meets its contract. Assumes nothing.
-use mathlib.Core.Logic.{⊎_elim}
-use borrow.Author.Tests.{eqb-true, eqb-false, not-true, not-false}
 use Rattle.store_head.proofs.QueryPlaces.{words-in}
 use Rattle.queries.proofs.QueryWords.{none_row, none-side, part-are}
 use Rattle.queries.proofs.row_tail.sub_row_in.Goals.{then-head-r-via-then-head-r, then-head-r-via-else-head-r+then-a-head}
@@ -8,8 +6,9 @@ use Rattle.queries.proofs.row_tail.sub_row_in.Goals as goal
 
 pub returns-then-head-r : goal.returns-then-head-r
 returns-then-head-r c = elim c.then-head-r.branch [
-    then-head-r-via-then-head-r w ↦ none_row _ _ w.if-head-r.true
-    | then-head-r-via-else-head-r+then-a-head w ↦ none-side _ _ w.if-head-r.false w.if-a-head.true ]
+  | then-head-r-via-then-head-r w ↦ none_row _ _ w.if-head-r.true
+  | then-head-r-via-else-head-r+then-a-head w ↦ none-side _ _ w.if-head-r.false w.if-a-head.true
+]
 
 pub row_words-requires : goal.row_words-requires
 row_words-requires c = rw c.words_for.ensures (words-in _ c.requires _ _ c.if-head-r.false c.home_row.ensures _ c.row_place-y.ensures)
