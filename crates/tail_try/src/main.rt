@@ -3,8 +3,6 @@
 mod safe;
 mod show;
 
-use libc::STDOUT_FILENO;
-
 fn main() {
     sizes();
     cells();
@@ -26,7 +24,7 @@ fn sizes() {
 
 // A line with n, its words and its padding.
 fn size(n: u32) {
-    io::write_all(STDOUT_FILENO, b"size");
+    io::write_all(1, b"size");
     show::number(show::wide(n));
     show::number(tail::words_for(n) as u64);
     show::number(show::wide(tail::padding_of(n)));

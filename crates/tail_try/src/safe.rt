@@ -1,10 +1,9 @@
 // Each function of `tail` behind a test of what it requires: at least six words, three rows, 128 columns. Where the test fails, nothing is done and `?` is written.
 use crate::show;
-use libc::STDOUT_FILENO;
 
 // The line of a trial that was not done.
 fn out_of_reach() {
-    io::write_all(STDOUT_FILENO, b"?\n");
+    io::write_all(1, b"?\n");
 }
 
 // The first six words.
@@ -86,7 +85,7 @@ pub fn ones(ws: &[u64], n: u32, y: usize, base: u32) {
     if 6 <= ws.len() && n <= 128 && y < 3 && base <= 1000 {
         let done = tail::ones(ws, n, y, base, answers);
         show::answers(b"ones", answers, done);
-        io::write_all(STDOUT_FILENO, b"count");
+        io::write_all(1, b"count");
         show::number(tail::count(ws, n, y) as u64);
         show::end();
     } else {

@@ -1,0 +1,7 @@
+-- `put` meets its contract. Assumes nothing.
+use native.Mathlib.Omega.{arith}
+use Rattle.tail_try.proofs.Fits.{row_fits}
+use Rattle.tail_try.proofs.safe.put.Goals as goal
+
+pub put-requires : goal.put-requires
+put-requires c = record { small = omega arith; column = omega arith; row = row_fits _ _ _ (omega arith) (omega arith) (omega arith) }
