@@ -2,7 +2,6 @@
 ghost use Rattle.arraymap.specs.Index.{CanBuild};
 
 use crate::print;
-use libc::STDOUT_FILENO;
 
 // Builds an index: the starts, then the entries.
 fn builds(
@@ -18,12 +17,12 @@ fn builds(
 )
     requires { CanBuild slots.now counts.now h k m used starts.old entries.old }
 {
-    io::write_all(STDOUT_FILENO, name);
+    io::write_all(1, name);
     arraymap::build(slots, counts, h, k, m, used, starts, entries);
     print::long_numbers(starts);
-    io::write_all(STDOUT_FILENO, b" |");
+    io::write_all(1, b" |");
     print::numbers(entries);
-    io::write_all(STDOUT_FILENO, b"\n");
+    io::write_all(1, b"\n");
 }
 
 pub fn no_rows() {

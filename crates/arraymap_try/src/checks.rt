@@ -2,7 +2,6 @@
 ghost use Rattle.arraymap.specs.Check.{CanCheck};
 
 use crate::print;
-use libc::STDOUT_FILENO;
 
 // The check of an index over four columns: 1 where it passes.
 fn checks(
@@ -17,7 +16,7 @@ fn checks(
 )
     requires { CanCheck slots.now counts.now 5 3 4 starts.now logical.now marks.now }
 {
-    io::write_all(STDOUT_FILENO, name);
+    io::write_all(1, name);
     if arraymap::sound(
         slots, counts, 5, 3, 4, starts, entries, logical, marks, edge,
     ) {
@@ -25,7 +24,7 @@ fn checks(
     } else {
         print::number(0);
     }
-    io::write_all(STDOUT_FILENO, b"\n");
+    io::write_all(1, b"\n");
 }
 
 // The index that `rebuilt` builds.

@@ -1,10 +1,9 @@
 // Numbers on standard output.
-use libc::STDOUT_FILENO;
 
 // A blank and n.
 pub fn number(n: u64) {
-    io::write_all(STDOUT_FILENO, b" ");
-    io::print_decimal(STDOUT_FILENO, n);
+    io::write_all(1, b" ");
+    io::print_decimal(1, n);
 }
 
 // Each number of the list.

@@ -3,17 +3,16 @@ ghost use Rattle.std.specs.Prelude.{◌-◌, ◌≤◌, min};
 ghost use Rattle.arraymap.specs.Show.{CanShow, CanList};
 
 use crate::print;
-use libc::STDOUT_FILENO;
 
 // The list of a column.
 fn gets(starts: &[u64], entries: &[u32], z: usize)
     requires { CanList starts.now entries.now z }
 {
-    io::write_all(STDOUT_FILENO, b"list");
+    io::write_all(1, b"list");
     print::number(z as u64);
-    io::write_all(STDOUT_FILENO, b":");
+    io::write_all(1, b":");
     print::numbers(arraymap::get(starts, entries, z));
-    io::write_all(STDOUT_FILENO, b"\n");
+    io::write_all(1, b"\n");
 }
 
 pub fn lists() {
@@ -31,12 +30,12 @@ fn shows(name: &[u8], list: &[u32], homes: &[u32], logical: &[u32], h: usize, a:
     requires a_bound { min b h - a ≤ 8 }
 {
     let mut answers: [u32; 8] = [77; 8];
-    io::write_all(STDOUT_FILENO, name);
+    io::write_all(1, name);
     print::number(arraymap::count_shown(list, homes, logical, h, a, b) as u64);
     print::number(arraymap::show(list, homes, logical, h, a, b, &mut answers) as u64);
-    io::write_all(STDOUT_FILENO, b" |");
+    io::write_all(1, b" |");
     print::numbers(&answers);
-    io::write_all(STDOUT_FILENO, b"\n");
+    io::write_all(1, b"\n");
 }
 
 // Rows 0, 1 and 4 of five, through a turned map: by insertion.
