@@ -6,7 +6,6 @@ ghost use Rattle.std.specs.Prelude.{◌≤◌, ◌<◌, length};
 mod scripts;
 mod show;
 
-use libc::STDOUT_FILENO;
 use records::Read;
 
 // Shows what stands at `at`, and answers where reading goes on: the end, after a record cut short.
@@ -35,7 +34,7 @@ pub fn script(s: &[u8]) {
 // Positions at and past the end of a script.
 fn past_the_end() {
     let s = [6u8, 0, 0];
-    io::write_all(STDOUT_FILENO, b"past the end:\n");
+    io::write_all(1, b"past the end:\n");
     show::reading(records::read_at(&s, 3));
     show::reading(records::read_at(&s, 4));
     show::reading(records::read_at(&s, 18446744073709551615));

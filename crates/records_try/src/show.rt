@@ -1,12 +1,11 @@
 // A reading as a line.
-use libc::STDOUT_FILENO;
 use records::{Read, Record};
 use table::Op;
 
 // A space and the number.
 fn number(x: u64) {
-    io::write_all(STDOUT_FILENO, b" ");
-    io::print_decimal(STDOUT_FILENO, x);
+    io::write_all(1, b" ");
+    io::print_decimal(1, x);
 }
 
 // A space and the place.
@@ -15,8 +14,8 @@ fn place(x: u32) {
 }
 
 fn none(name: &[u8]) {
-    io::write_all(STDOUT_FILENO, b" ");
-    io::write_all(STDOUT_FILENO, name);
+    io::write_all(1, b" ");
+    io::write_all(1, name);
 }
 
 fn one(name: &[u8], a: u32) {
@@ -62,7 +61,7 @@ fn kind(op: Op) {
 // A whole record: its script position and its operation.
 fn whole(x: Record) {
     let op = x.op;
-    io::write_all(STDOUT_FILENO, b"at");
+    io::write_all(1, b"at");
     number(x.at as u64);
     kind(op);
 }
@@ -72,19 +71,19 @@ pub fn reading(x: Read) {
     match x {
         Read::Whole(r, next) => {
             whole(r);
-            io::write_all(STDOUT_FILENO, b", next");
+            io::write_all(1, b", next");
             number(next as u64);
         }
         Read::Wrong(next) => {
-            io::write_all(STDOUT_FILENO, b"wrong, next");
+            io::write_all(1, b"wrong, next");
             number(next as u64);
         }
         Read::Cut => {
-            io::write_all(STDOUT_FILENO, b"cut");
+            io::write_all(1, b"cut");
         }
         Read::End => {
-            io::write_all(STDOUT_FILENO, b"end");
+            io::write_all(1, b"end");
         }
     }
-    io::write_all(STDOUT_FILENO, b"\n");
+    io::write_all(1, b"\n");
 }
