@@ -5,23 +5,21 @@ ghost use Rattle.std.specs.Prelude.{◌≤◌, length};
 
 mod digits;
 
-use libc::STDOUT_FILENO;
-
 // Shows a trial: the bytes before `end`, and the two after it.
 pub fn show(out: &[u8], long: usize, end: usize) {
-    io::write_all(STDOUT_FILENO, b"long ");
-    io::print_decimal(STDOUT_FILENO, long as u64);
-    io::write_all(STDOUT_FILENO, b", next ");
-    io::print_decimal(STDOUT_FILENO, end as u64);
-    io::write_all(STDOUT_FILENO, b"\n");
+    io::write_all(1, b"long ");
+    io::print_decimal(1, long as u64);
+    io::write_all(1, b", next ");
+    io::print_decimal(1, end as u64);
+    io::write_all(1, b"\n");
     if out.len() < 2 {
         return;
     }
     if end <= out.len() - 2 {
         let past = end + 2;
-        io::write_all(STDOUT_FILENO, &out[0..past]);
+        io::write_all(1, &out[0..past]);
     }
-    io::write_all(STDOUT_FILENO, b"\n");
+    io::write_all(1, b"\n");
 }
 
 // The line of the numbers, where it has room.

@@ -1,0 +1,7 @@
+-- `lines_try::digits::number` meets its contract. Assumes nothing.
+use native.Mathlib.Omega.{arith}
+use Rattle.lines.proofs.Writing.{long-one}
+use Rattle.lines_try.proofs.digits.number.Goals as goal
+
+pub put_number-end-requires : goal.put_number-end-requires
+put_number-end-requires c = omega (arith, long-one c.args.x)

@@ -1,0 +1,7 @@
+-- `lines_try::digits::three` meets its contract. Assumes nothing.
+use native.Mathlib.Omega.{arith}
+use Rattle.lines.proofs.Writing.{long-three}
+use Rattle.lines_try.proofs.digits.three.Goals as goal
+
+pub put_three-end-requires : goal.put_three-end-requires
+put_three-end-requires c = omega (arith, long-three c.args.a c.args.b c.args.c)
