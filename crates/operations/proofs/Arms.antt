@@ -1,23 +1,19 @@
 -- What each kind of call tells, told in the words of one call for any operation. Assumes nothing.
 use mathlib.Core.Path.{◌≡◌, refl, sym, ap, ◌∙◌}
-use mathlib.Core.Bool.{Bool, true, false, true≢false}
+use mathlib.Core.Bool.{true, false, true≢false}
 use mathlib.Core.List.{List, [], ◌∷◌}
 use Prim.Native.Nat.{ℕ}
 use Rattle.table.specs.declared.Op.{Op}
 use Rattle.table.specs.declared.Op.TheVariants.{Make, Set, SwapR, SwapC, Add, On, Off, Freeze, Resize, Get, Count, Words, TailOnes, Iter, ColOnes, Size}
-use Rattle.table.specs.Refusals.{Check, ◌when◌, Verdict, refused, done, outcome}
+use Rattle.table.specs.Refusals.{Check, ◌when◌, done, outcome}
 use Rattle.table.specs.declared.Sizes.{Sizes}
 use Rattle.table.specs.Step.{answer}
 use Rattle.table.specs.Room as room
 use Rattle.table.specs.Room.{kind, is_make, all_checks}
-use Rattle.table.specs.Run.{Reply, ok, nay, reply_of, kept}
+use Rattle.table.specs.Run.{Reply, reply_of, kept}
 use Rattle.model.specs.Store.{Store, Full, table_of, held_of}
-use Rattle.model.specs.WellFormed.{WellFormed}
 use Rattle.model.specs.Step as model
 use Rattle.model.specs.Step.{Result, inner, step, result_of}
-use Rattle.store_head.specs.declared.Numbers.{Numbers}
-use Rattle.store_head.specs.declared.Changed.{Changed}
-use Rattle.store_head.specs.declared.Changed.TheVariants as changed
 use Rattle.store_head.specs.declared.Number.{Number}
 use Rattle.store_head.specs.declared.Number.TheVariants as numbered
 use Rattle.store_head.specs.declared.Listed.{Listed}
@@ -26,7 +22,7 @@ use Rattle.store_head.specs.declared.Sized.{Sized}
 use Rattle.store_head.specs.declared.Sized.TheVariants as sized
 use Rattle.store_head.specs.Lent.{full_of}
 use Rattle.store_head.proofs.Calls.{make-any}
-use Rattle.store_head.specs.Told.{number_says, size_says, list_told, changed_told, words_says}
+use Rattle.store_head.specs.Told.{number_says, size_says, list_told, words_says}
 use Rattle.operations.specs.declared.Told.{Told}
 use Rattle.operations.specs.Applied.{of_number, of_words, of_sized, of_listed, part_at, Form, number, sizes, list, words, form, asked_told}
 

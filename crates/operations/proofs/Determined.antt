@@ -1,14 +1,13 @@
 -- Any two outcomes that the contract of one call admits are equal: what is told, the head and every lent number. Assumes nothing.
 use mathlib.Core.Path.{◌≡◌, refl, sym, ap, ◌∙◌}
-use mathlib.Core.Bool.{Bool, true, false, true≢false}
+use mathlib.Core.Bool.{true, false}
 use mathlib.Core.List.{List, [], ◌∷◌}
 use Prim.Native.Nat.{ℕ, ◌<◌}
 use native.Mathlib.Omega.{arith}
 use lib.ListN.{length, get_or}
-use Rattle.laws.specs.Parts.{stretch}
 use Rattle.laws.proofs.Parts.{stretch-length}
 use Rattle.table.specs.declared.Op.{Op}
-use Rattle.table.specs.Refusals.{Check, ◌when◌, Verdict, refused, done as accepted, outcome, number as numbered}
+use Rattle.table.specs.Refusals.{Check, ◌when◌, done as accepted, outcome}
 use Rattle.table.specs.Step.{answer}
 use Rattle.table.specs.Room.{all_checks}
 use Rattle.table.specs.Run.{Reply, ok, nay, reply_of}
@@ -20,7 +19,7 @@ use Rattle.store_head.proofs.Slices.{Slices, over, lists, same_head}
 use Rattle.operations.specs.declared.Told.{Told}
 use Rattle.operations.specs.declared.Told.TheVariants as told
 use Rattle.operations.specs.declared.Applied.{Applied}
-use Rattle.operations.specs.Applied.{Form, done, number, sizes, list, words, form, part_at, says, applied_told}
+use Rattle.operations.specs.Applied.{Form, done, number, sizes, list, words, form, says, applied_told}
 
 -- ---- what is told, from the reply and the operation's form
 back : Reply → Form → Told

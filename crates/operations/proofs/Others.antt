@@ -1,100 +1,76 @@
 -- What a `match` leaves to its `_` is not the operation that the caller must bring. Assumes nothing.
 use mathlib.Core.Path.{◌≡◌, refl}
 use mathlib.Core.Bool.{true, false, true≢false, false≢true}
-use mathlib.Core.List.{List, [], ◌∷◌}
-use Prim.Native.Nat.{ℕ}
-use types.Run.{OneOf, miss}
-use denote.Enum.Declared.{tag_of}
-use Rattle.table.specs.contracts.Op.{the_type}
 use Rattle.table.specs.declared.Op.{Op}
+use Rattle.table.specs.declared.Sizes.{Sizes}
+use Rattle.table.specs.declared.SetCell.{SetCell}
+use Rattle.table.specs.declared.Two.{Two}
+use Rattle.table.specs.declared.Addition.{Addition}
+use Rattle.table.specs.declared.Column.{Column}
+use Rattle.table.specs.declared.Shape.{Shape}
+use Rattle.table.specs.declared.Cell.{Cell}
+use Rattle.table.specs.declared.RowRange.{RowRange}
+use Rattle.table.specs.declared.RowTail.{RowTail}
+use Rattle.table.specs.declared.ColumnRange.{ColumnRange}
 use Rattle.table.specs.declared.Op.TheVariants.{Make, Set, SwapR, SwapC, Add, On, Off, Freeze, Resize, Get, Count, Words, TailOnes, Iter, ColOnes, Size}
 use Rattle.table.specs.Room.{kind, is_make, listed}
 use Rattle.operations.specs.Applied.{asks, in_place, done, form}
 
--- the places of the kinds in the enum
-abbrev pub changing : List ℕ
-changing = 0 ∷ 1 ∷ 2 ∷ 3 ∷ 4 ∷ 5 ∷ 6 ∷ 7 ∷ 8 ∷ []
-
-abbrev pub asking : List ℕ
-asking = 9 ∷ 10 ∷ 11 ∷ 12 ∷ 13 ∷ 14 ∷ 15 ∷ []
-
--- one that asks is none of those that change
-pub no_change : (o : Op) → asks o ≡ true → OneOf changing (tag_of the_type o) → ⊥
-no_change (Make p) t h = false≢true t
-no_change (Set p) t h = false≢true t
-no_change (SwapR p) t h = false≢true t
-no_change (SwapC p) t h = false≢true t
-no_change (Add p) t h = false≢true t
-no_change On t h = false≢true t
-no_change Off t h = false≢true t
-no_change (Freeze p) t h = false≢true t
-no_change (Resize p) t h = false≢true t
-no_change (Get p) t h = miss changing 9 tt h
-no_change (Count p) t h = miss changing 10 tt h
-no_change (Words p) t h = miss changing 11 tt h
-no_change (TailOnes p) t h = miss changing 12 tt h
-no_change (Iter p) t h = miss changing 13 tt h
-no_change (ColOnes p) t h = miss changing 14 tt h
-no_change Size t h = miss changing 15 tt h
-
--- one that changes is none of those that ask
-pub no-question : (o : Op) → asks o ≡ false → OneOf asking (tag_of the_type o) → ⊥
-no-question (Make p) t h = miss asking 0 tt h
-no-question (Set p) t h = miss asking 1 tt h
-no-question (SwapR p) t h = miss asking 2 tt h
-no-question (SwapC p) t h = miss asking 3 tt h
-no-question (Add p) t h = miss asking 4 tt h
-no-question On t h = miss asking 5 tt h
-no-question Off t h = miss asking 6 tt h
-no-question (Freeze p) t h = miss asking 7 tt h
-no-question (Resize p) t h = miss asking 8 tt h
-no-question (Get p) t h = true≢false t
-no-question (Count p) t h = true≢false t
-no-question (Words p) t h = true≢false t
-no-question (TailOnes p) t h = true≢false t
-no-question (Iter p) t h = true≢false t
-no-question (ColOnes p) t h = true≢false t
-no-question Size t h = true≢false t
+-- one that asks is one of the seven that ask
+pub asks-one : (o : Op) → asks o ≡ true → ((x : Cell) → o ≡ Get x → ⊥) → ((x : RowRange) → o ≡ Count x → ⊥) → ((x : RowTail) → o ≡ Words x → ⊥) → ((x : RowTail) → o ≡ TailOnes x → ⊥) → ((x : RowRange) → o ≡ Iter x → ⊥) → ((x : ColumnRange) → o ≡ ColOnes x → ⊥) → (o ≡ Size → ⊥) → ⊥
+asks-one (Make p) t h0 h1 h2 h3 h4 h5 h6 = false≢true t
+asks-one (Set p) t h0 h1 h2 h3 h4 h5 h6 = false≢true t
+asks-one (SwapR p) t h0 h1 h2 h3 h4 h5 h6 = false≢true t
+asks-one (SwapC p) t h0 h1 h2 h3 h4 h5 h6 = false≢true t
+asks-one (Add p) t h0 h1 h2 h3 h4 h5 h6 = false≢true t
+asks-one On t h0 h1 h2 h3 h4 h5 h6 = false≢true t
+asks-one Off t h0 h1 h2 h3 h4 h5 h6 = false≢true t
+asks-one (Freeze p) t h0 h1 h2 h3 h4 h5 h6 = false≢true t
+asks-one (Resize p) t h0 h1 h2 h3 h4 h5 h6 = false≢true t
+asks-one (Get p) t h0 h1 h2 h3 h4 h5 h6 = h0 p refl
+asks-one (Count p) t h0 h1 h2 h3 h4 h5 h6 = h1 p refl
+asks-one (Words p) t h0 h1 h2 h3 h4 h5 h6 = h2 p refl
+asks-one (TailOnes p) t h0 h1 h2 h3 h4 h5 h6 = h3 p refl
+asks-one (Iter p) t h0 h1 h2 h3 h4 h5 h6 = h4 p refl
+asks-one (ColOnes p) t h0 h1 h2 h3 h4 h5 h6 = h5 p refl
+asks-one Size t h0 h1 h2 h3 h4 h5 h6 = h6 refl
 
 -- ---- the same of the tests
-abbrev pub unmade : List ℕ
-unmade = 1 ∷ 2 ∷ 3 ∷ 4 ∷ 5 ∷ 6 ∷ 7 ∷ 8 ∷ 9 ∷ 10 ∷ 11 ∷ 12 ∷ 13 ∷ 14 ∷ 15 ∷ []
+pub other-than-make : (o : Op) → ((x : Sizes) → o ≡ Make x → ⊥) → false ≡ is_make (kind o)
+other-than-make (Make p) h0 = absurd (h0 p refl)
+other-than-make (Set p) h0 = refl
+other-than-make (SwapR p) h0 = refl
+other-than-make (SwapC p) h0 = refl
+other-than-make (Add p) h0 = refl
+other-than-make On h0 = refl
+other-than-make Off h0 = refl
+other-than-make (Freeze p) h0 = refl
+other-than-make (Resize p) h0 = refl
+other-than-make (Get p) h0 = refl
+other-than-make (Count p) h0 = refl
+other-than-make (Words p) h0 = refl
+other-than-make (TailOnes p) h0 = refl
+other-than-make (Iter p) h0 = refl
+other-than-make (ColOnes p) h0 = refl
+other-than-make Size h0 = refl
 
-pub other-than-make : (o : Op) → OneOf unmade (tag_of the_type o) → false ≡ is_make (kind o)
-other-than-make (Make p) h = absurd (miss unmade 0 tt h)
-other-than-make (Set p) h = refl
-other-than-make (SwapR p) h = refl
-other-than-make (SwapC p) h = refl
-other-than-make (Add p) h = refl
-other-than-make On h = refl
-other-than-make Off h = refl
-other-than-make (Freeze p) h = refl
-other-than-make (Resize p) h = refl
-other-than-make (Get p) h = refl
-other-than-make (Count p) h = refl
-other-than-make (Words p) h = refl
-other-than-make (TailOnes p) h = refl
-other-than-make (Iter p) h = refl
-other-than-make (ColOnes p) h = refl
-other-than-make Size h = refl
-
-pub no-question-told : (o : Op) → OneOf changing (tag_of the_type o) → false ≡ asks o
-no-question-told (Make p) h = refl
-no-question-told (Set p) h = refl
-no-question-told (SwapR p) h = refl
-no-question-told (SwapC p) h = refl
-no-question-told (Add p) h = refl
-no-question-told On h = refl
-no-question-told Off h = refl
-no-question-told (Freeze p) h = refl
-no-question-told (Resize p) h = refl
-no-question-told (Get p) h = absurd (miss changing 9 tt h)
-no-question-told (Count p) h = absurd (miss changing 10 tt h)
-no-question-told (Words p) h = absurd (miss changing 11 tt h)
-no-question-told (TailOnes p) h = absurd (miss changing 12 tt h)
-no-question-told (Iter p) h = absurd (miss changing 13 tt h)
-no-question-told (ColOnes p) h = absurd (miss changing 14 tt h)
-no-question-told Size h = absurd (miss changing 15 tt h)
+pub no-question-told : (o : Op) → ((x : Cell) → o ≡ Get x → ⊥) → ((x : RowRange) → o ≡ Count x → ⊥) → ((x : RowTail) → o ≡ Words x → ⊥) → ((x : RowTail) → o ≡ TailOnes x → ⊥) → ((x : RowRange) → o ≡ Iter x → ⊥) → ((x : ColumnRange) → o ≡ ColOnes x → ⊥) → (o ≡ Size → ⊥) → false ≡ asks o
+no-question-told (Make p) h0 h1 h2 h3 h4 h5 h6 = refl
+no-question-told (Set p) h0 h1 h2 h3 h4 h5 h6 = refl
+no-question-told (SwapR p) h0 h1 h2 h3 h4 h5 h6 = refl
+no-question-told (SwapC p) h0 h1 h2 h3 h4 h5 h6 = refl
+no-question-told (Add p) h0 h1 h2 h3 h4 h5 h6 = refl
+no-question-told On h0 h1 h2 h3 h4 h5 h6 = refl
+no-question-told Off h0 h1 h2 h3 h4 h5 h6 = refl
+no-question-told (Freeze p) h0 h1 h2 h3 h4 h5 h6 = refl
+no-question-told (Resize p) h0 h1 h2 h3 h4 h5 h6 = refl
+no-question-told (Get p) h0 h1 h2 h3 h4 h5 h6 = absurd (h0 p refl)
+no-question-told (Count p) h0 h1 h2 h3 h4 h5 h6 = absurd (h1 p refl)
+no-question-told (Words p) h0 h1 h2 h3 h4 h5 h6 = absurd (h2 p refl)
+no-question-told (TailOnes p) h0 h1 h2 h3 h4 h5 h6 = absurd (h3 p refl)
+no-question-told (Iter p) h0 h1 h2 h3 h4 h5 h6 = absurd (h4 p refl)
+no-question-told (ColOnes p) h0 h1 h2 h3 h4 h5 h6 = absurd (h5 p refl)
+no-question-told Size h0 h1 h2 h3 h4 h5 h6 = absurd (h6 refl)
 
 -- a question is not MAKE
 pub question-not-make : (o : Op) → asks o ≡ true → is_make (kind o) ≡ false
@@ -154,47 +130,41 @@ change-form (ColOnes p) t = absurd (true≢false t)
 change-form Size t = absurd (true≢false t)
 
 -- ---- the five that leave the index's lists
-abbrev pub moving : List ℕ
-moving = 0 ∷ 5 ∷ 6 ∷ 8 ∷ 9 ∷ 10 ∷ 11 ∷ 12 ∷ 13 ∷ 14 ∷ 15 ∷ []
+pub in-place-one : (o : Op) → in_place o ≡ true → ((x : SetCell) → o ≡ Set x → ⊥) → ((x : Two) → o ≡ SwapR x → ⊥) → ((x : Two) → o ≡ SwapC x → ⊥) → ((x : Addition) → o ≡ Add x → ⊥) → ((x : Column) → o ≡ Freeze x → ⊥) → ⊥
+in-place-one (Make p) t h0 h1 h2 h3 h4 = false≢true t
+in-place-one (Set p) t h0 h1 h2 h3 h4 = h0 p refl
+in-place-one (SwapR p) t h0 h1 h2 h3 h4 = h1 p refl
+in-place-one (SwapC p) t h0 h1 h2 h3 h4 = h2 p refl
+in-place-one (Add p) t h0 h1 h2 h3 h4 = h3 p refl
+in-place-one On t h0 h1 h2 h3 h4 = false≢true t
+in-place-one Off t h0 h1 h2 h3 h4 = false≢true t
+in-place-one (Freeze p) t h0 h1 h2 h3 h4 = h4 p refl
+in-place-one (Resize p) t h0 h1 h2 h3 h4 = false≢true t
+in-place-one (Get p) t h0 h1 h2 h3 h4 = false≢true t
+in-place-one (Count p) t h0 h1 h2 h3 h4 = false≢true t
+in-place-one (Words p) t h0 h1 h2 h3 h4 = false≢true t
+in-place-one (TailOnes p) t h0 h1 h2 h3 h4 = false≢true t
+in-place-one (Iter p) t h0 h1 h2 h3 h4 = false≢true t
+in-place-one (ColOnes p) t h0 h1 h2 h3 h4 = false≢true t
+in-place-one Size t h0 h1 h2 h3 h4 = false≢true t
 
-pub none-moving : (o : Op) → in_place o ≡ true → OneOf moving (tag_of the_type o) → ⊥
-none-moving (Make p) t h = false≢true t
-none-moving (Set p) t h = miss moving 1 tt h
-none-moving (SwapR p) t h = miss moving 2 tt h
-none-moving (SwapC p) t h = miss moving 3 tt h
-none-moving (Add p) t h = miss moving 4 tt h
-none-moving On t h = false≢true t
-none-moving Off t h = false≢true t
-none-moving (Freeze p) t h = miss moving 7 tt h
-none-moving (Resize p) t h = false≢true t
-none-moving (Get p) t h = false≢true t
-none-moving (Count p) t h = false≢true t
-none-moving (Words p) t h = false≢true t
-none-moving (TailOnes p) t h = false≢true t
-none-moving (Iter p) t h = false≢true t
-none-moving (ColOnes p) t h = false≢true t
-none-moving Size t h = false≢true t
-
-abbrev pub staying : List ℕ
-staying = 1 ∷ 2 ∷ 3 ∷ 4 ∷ 7 ∷ 9 ∷ 10 ∷ 11 ∷ 12 ∷ 13 ∷ 14 ∷ 15 ∷ []
-
-pub stays : (o : Op) → asks o ≡ false → OneOf staying (tag_of the_type o) → in_place o ≡ true
-stays (Make p) t h = absurd (miss staying 0 tt h)
-stays (Set p) t h = refl
-stays (SwapR p) t h = refl
-stays (SwapC p) t h = refl
-stays (Add p) t h = refl
-stays On t h = absurd (miss staying 5 tt h)
-stays Off t h = absurd (miss staying 6 tt h)
-stays (Freeze p) t h = refl
-stays (Resize p) t h = absurd (miss staying 8 tt h)
-stays (Get p) t h = absurd (true≢false t)
-stays (Count p) t h = absurd (true≢false t)
-stays (Words p) t h = absurd (true≢false t)
-stays (TailOnes p) t h = absurd (true≢false t)
-stays (Iter p) t h = absurd (true≢false t)
-stays (ColOnes p) t h = absurd (true≢false t)
-stays Size t h = absurd (true≢false t)
+pub stays : (o : Op) → asks o ≡ false → ((x : Sizes) → o ≡ Make x → ⊥) → (o ≡ On → ⊥) → (o ≡ Off → ⊥) → ((x : Shape) → o ≡ Resize x → ⊥) → in_place o ≡ true
+stays (Make p) t h0 h1 h2 h3 = absurd (h0 p refl)
+stays (Set p) t h0 h1 h2 h3 = refl
+stays (SwapR p) t h0 h1 h2 h3 = refl
+stays (SwapC p) t h0 h1 h2 h3 = refl
+stays (Add p) t h0 h1 h2 h3 = refl
+stays On t h0 h1 h2 h3 = absurd (h1 refl)
+stays Off t h0 h1 h2 h3 = absurd (h2 refl)
+stays (Freeze p) t h0 h1 h2 h3 = refl
+stays (Resize p) t h0 h1 h2 h3 = absurd (h3 p refl)
+stays (Get p) t h0 h1 h2 h3 = absurd (true≢false t)
+stays (Count p) t h0 h1 h2 h3 = absurd (true≢false t)
+stays (Words p) t h0 h1 h2 h3 = absurd (true≢false t)
+stays (TailOnes p) t h0 h1 h2 h3 = absurd (true≢false t)
+stays (Iter p) t h0 h1 h2 h3 = absurd (true≢false t)
+stays (ColOnes p) t h0 h1 h2 h3 = absurd (true≢false t)
+stays Size t h0 h1 h2 h3 = absurd (true≢false t)
 
 pub in-place-not-make : (o : Op) → in_place o ≡ true → is_make (kind o) ≡ false
 in-place-not-make (Make p) t = absurd (false≢true t)

@@ -1,21 +1,20 @@
 -- RESIZE: its refusals, and one step of each of its walks: a row brought home, the rows behind dropped, a row cut to the columns that stay. Assumes nothing.
-use mathlib.Core.Path.{◌≡◌, refl, sym, ap, ◌∙◌}
+use mathlib.Core.Path.{◌≡◌, refl, sym, ◌∙◌}
 use mathlib.Core.Bool.{Bool, true, false, ◌&&◌, ◌||◌}
 use mathlib.Core.List.{List, []}
-use Prim.Native.Nat.{ℕ, suc, ◌+◌, ◌-◌, ◌*◌, ◌≤◌, ◌<◌}
+use Prim.Native.Nat.{ℕ, ◌-◌, ◌*◌, ◌≤◌, ◌<◌}
 use native.Mathlib.Omega.{arith}
 use native.Mathlib.Nat.{mul-le-mul_right}
-use lib.Dec.{leb, ltb, eqb}
+use lib.Dec.{ltb, eqb}
 use lib.ListN.{length, get_or, set}
 use borrow.Author.Tests.{le-ltb, lt-ltb, eq-eqb, ne_eqb}
 use Rattle.laws.specs.Plain.{pick}
 use Rattle.laws.specs.Parts.{zeros, part, put_at, row_of}
 use Rattle.laws.specs.Words.{words_for}
-use Rattle.laws.proofs.Bools.{by-test}
 use Rattle.laws.proofs.Parts.{part_length}
 use Rattle.lent.specs.Stretch.{Stretch}
 use Rattle.sparse_vec.specs.Row.{put_row, kept_below}
-use Rattle.sparse_vec.specs.Calls.{CanExchange, CanRetain}
+use Rattle.sparse_vec.specs.Calls.{CanRetain}
 use Rattle.sparse_vec.proofs.Keeping.{kept-length}
 use Rattle.permutation.specs.Maps.{CanSwap, swapped, turned}
 use Rattle.tail.specs.Runs.{Apart}
@@ -28,7 +27,7 @@ use Rattle.model.specs.Step.{inner}
 use Rattle.store_head.specs.declared.Numbers.{Numbers}
 use Rattle.store_head.specs.Lent.{full_of}
 use Rattle.store_head.specs.Refused.{refusal_of}
-use Rattle.reshape.specs.Resized.{rows_over, RowsOf, ListsOf, CanTrade, CanHome, CanDrop, CanKeep}
+use Rattle.reshape.specs.Resized.{rows_over, RowsOf, CanTrade, CanHome, CanDrop, CanKeep}
 
 -- ---- the refusals
 

@@ -1,15 +1,14 @@
 -- RESIZE's walks as a whole, on a well-formed store: turn by turn they hold the lists of the model's steps, and the store at the end is the model's. Assumes nothing.
 use mathlib.Core.Path.{◌≡◌, refl, sym, ap, ◌∙◌, subst}
-use mathlib.Core.Bool.{Bool, true, false}
+use mathlib.Core.Bool.{false}
 use mathlib.Core.List.{List, []}
-use Prim.Native.Nat.{ℕ, suc, ◌+◌, ◌-◌, ◌*◌, ◌≤◌, ◌<◌}
+use Prim.Native.Nat.{ℕ, ◌+◌, ◌-◌, ◌*◌, ◌≤◌, ◌<◌}
 use native.Mathlib.Omega.{arith}
 use native.Mathlib.Nat.{mul-le-mul}
 use native.Mathlib.Numerals.{add-one}
 use lib.Dec.{eqb}
 use lib.ListN.{length, get_or, set}
-use borrow.Author.Tests.{eq-eqb, ne_eqb, eqb-true}
-use Rattle.laws.specs.Plain.{pick}
+use borrow.Author.Tests.{eq-eqb, ne_eqb}
 use Rattle.laws.specs.Parts.{zeros, put_at, row_of}
 use Rattle.laws.specs.Words.{words_for}
 use Rattle.laws.proofs.Bools.{by-test}
@@ -23,7 +22,7 @@ use Rattle.table.specs.Run.{ok}
 use Rattle.model.specs.Store as model
 use Rattle.model.specs.Store.{Store, edge, row, home_row}
 use Rattle.model.specs.WellFormed.{WellFormed}
-use Rattle.model.specs.Change.{with_row, bring_home, brought_home, swap_homes, drop_rows, kept_columns, drop_columns, resize}
+use Rattle.model.specs.Change.{with_row, bring_home, brought_home, swap_homes, drop_rows, kept_columns, drop_columns}
 use Rattle.model.specs.Step.{Result, inner, result_of}
 use Rattle.model.proofs.Rows.{frame-of, rows_apart}
 use Rattle.model.proofs.BringHome.{AtHome, brought-home}
@@ -34,7 +33,7 @@ use Rattle.model.proofs.Passed.{can-resize}
 use Rattle.store_head.specs.declared.Numbers.{Numbers}
 use Rattle.store_head.specs.Lent.{head_of, store_of, full_of}
 use Rattle.store_head.specs.Refused.{refusal_of}
-use Rattle.reshape.specs.Resized.{rows_over, RowsOf, ListsOf, CanTrade, CanHome, CanDrop, CanKeep}
+use Rattle.reshape.specs.Resized.{rows_over, RowsOf, ListsOf, CanHome, CanDrop, CanKeep}
 use Rattle.store_head.proofs.Refuses.{past, accepted}
 use Rattle.reshape.proofs.Freezes.{frame-take}
 

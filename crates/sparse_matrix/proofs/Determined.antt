@@ -3,13 +3,11 @@ use mathlib.Core.Path.{◌≡◌, sym, ap, ◌∙◌}
 use mathlib.Core.List.{List}
 use Prim.Native.Nat.{ℕ}
 use lib.ListN.{length}
-use Rattle.laws.specs.Parts.{stretch}
 use Rattle.laws.proofs.Parts.{stretch-length}
 use Rattle.table.specs.Run.{Reply}
 use Rattle.model.specs.Store as model
 use Rattle.model.specs.Step.{Result}
 use Rattle.store_head.specs.declared.Numbers.{Numbers}
-use Rattle.store_head.specs.declared.Size.{Size}
 use Rattle.sparse_matrix.specs.declared.Changed.{Changed}
 use Rattle.sparse_matrix.specs.declared.Changed.TheVariants as changed
 use Rattle.store_head.specs.declared.Number.{Number}

@@ -1,13 +1,9 @@
 -- `store_check::well_formed` meets its contract. Assumes nothing.
 use mathlib.Core.Path.{sym}
-use Prim.Native.Nat.{◌≤◌}
 use native.Mathlib.Omega.{arith}
 use lib.Seq.{length-take-le}
-use lib.ListN.{length}
 use Rattle.model.specs.Store.{Store}
-use Rattle.model.specs.WellFormed.{Limits}
 use Rattle.store_head.specs.Lent.{store_of}
-use Rattle.store_check.specs.Asked.{Limited}
 use Rattle.store_check.proofs.Verdict.{stops, passes, limited, fails-head, fails-lengths, fails-maps, fails-unused, fails-rows, fails-padding, verdict, limits, has-rows, columns-mapped, can-switch}
 use mathlib.Core.Path.{ap}
 use mathlib.Core.Bool.{not}

@@ -15,7 +15,7 @@ pub resize_in-requires : goal.resize_in-requires
 resize_in-requires c = c.requires.well_formed (not-make _ _ c.in-Resize.is refl)
 
 pub in_place-requires : goal.in_place-requires
-in_place-requires c = record { well_formed = c.requires.well_formed (in-place-not-make c.args.op (stays c.args.op c.requires.op_value c.in_default.keys5)); op_value = (stays c.args.op c.requires.op_value c.in_default.keys5) }
+in_place-requires c = record { well_formed = c.requires.well_formed (in-place-not-make c.args.op (stays c.args.op c.requires.op_value c.in_default.not-Make c.in_default.not-On c.in_default.not-Off c.in_default.not-Resize)); op_value = (stays c.args.op c.requires.op_value c.in_default.not-Make c.in_default.not-On c.in_default.not-Off c.in_default.not-Resize) }
 
 pub returns-in-Make : goal.returns-in-Make
 returns-in-Make c = as-done _ _ c.in-Make.is _ _ (c.new.ensures ∙ ap (result_of _) (make-inner _ _))

@@ -1,6 +1,6 @@
 -- `operations::change::in_place` meets its contract. Assumes nothing.
 use Rattle.operations.proofs.Arms.{as-done}
-use Rattle.operations.proofs.Others.{none-moving}
+use Rattle.operations.proofs.Others.{in-place-one}
 use Rattle.operations.proofs.change.in_place.Goals as goal
 
 pub set_in-requires : goal.set_in-requires
@@ -34,4 +34,4 @@ pub returns-in-Freeze : goal.returns-in-Freeze
 returns-in-Freeze c = as-done _ _ c.in-Freeze.is _ _ c.hint_column_dense_and_frozen_in.ensures
 
 pub returns-in_default : goal.returns-in_default
-returns-in_default c = absurd (none-moving c.args.op c.requires.op_value c.in_default.keys6)
+returns-in_default c = absurd (in-place-one c.args.op c.requires.op_value c.in_default.not-Set c.in_default.not-SwapR c.in_default.not-SwapC c.in_default.not-Add c.in_default.not-Freeze)

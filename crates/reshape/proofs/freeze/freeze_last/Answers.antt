@@ -1,5 +1,4 @@
 -- `reshape::freeze::freeze_last` meets its contract. Assumes nothing.
-use Prim.Native.Nat.{◌-◌}
 use native.Mathlib.Omega.{arith}
 use Rattle.reshape.proofs.Freezes.{column-low, home-in, grow-can, list-can, turn-start, turn-take, turn-tail, turn-next, freeze-done}
 use Rattle.reshape.proofs.freeze.freeze_last.Goals as goal

@@ -1,5 +1,4 @@
 -- `reshape::resize::bring_all` meets its contract. Assumes nothing.
-use Prim.Native.Nat.{◌-◌}
 use Rattle.reshape.proofs.Shrinks.{homing-start, can-home, homing-next, homing-done}
 use Rattle.reshape.proofs.resize.bring_all.Goals as goal
 

@@ -1,5 +1,4 @@
 -- `reshape::resize::keep_columns` meets its contract. Assumes nothing.
-use Prim.Native.Nat.{◌-◌}
 use Rattle.reshape.proofs.Shrinks.{cutting-start, can-keep, cutting-next, cutting-done}
 use Rattle.reshape.proofs.resize.keep_columns.Goals as goal
 

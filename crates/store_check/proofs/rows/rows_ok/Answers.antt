@@ -1,8 +1,6 @@
 -- `store_check::rows::rows_ok` meets its contract. Assumes nothing.
-use Prim.Native.Nat.{◌-◌}
 use native.Mathlib.Omega.{arith}
 use Rattle.laws.proofs.Passes.{passed_start, passed-more}
-use Rattle.store_check.specs.Pieces.{row_ok}
 use Rattle.store_check.proofs.Pieces.{has-row, rows-fail, rows_pass}
 use Rattle.store_check.proofs.Verdict.{stops, passes}
 use mathlib.Core.Path.{ap}
