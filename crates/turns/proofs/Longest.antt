@@ -8,9 +8,6 @@ use native.Mathlib.Omega.{arith}
 use lib.Dec.{leb, ltb}
 use lib.ListN.{length, length-append}
 use borrow.Author.Tests.{leb-true, le-leb, ltb-true, ltb-false}
-use types.Run.{OneOf}
-use denote.Enum.Declared.{tag_of}
-use Rattle.table.specs.contracts.Op.{the_type}
 use Rattle.laws.specs.Plain.{num, between}
 use Rattle.laws.specs.Rows.{member}
 use Rattle.laws.specs.Words.{words_for, value}
@@ -33,9 +30,9 @@ use Rattle.model.specs.Step.{inner, full_after}
 use Rattle.lines.specs.Line.{dec, spaced, numbers, line_long}
 use Rattle.lines.proofs.Decimal.{one-long, dec-short}
 use Rattle.lines.proofs.Writing.{long_ok, long-no, long-none, long-one, long-three}
-use Rattle.operations.specs.Applied.{Form, form}
+use Rattle.operations.specs.Applied.{Form, form, asks}
 use Rattle.operations.specs.Applied as told
-use Rattle.operations.proofs.Others.{changing, change-form, no-question-told}
+use Rattle.operations.proofs.Others.{change-form}
 use Rattle.turns.specs.Said.{most_long}
 
 -- ---- lists of numbers with at most m digits each
@@ -179,8 +176,8 @@ module _ (f : Full) (v : WellFormed f.store) where
 pub same-most : (o p : Op) → o ≡ p → (k n : ℕ) → k ≡ most_long (form p) n → k ≡ most_long (form o) n
 same-most o p e k n q = q ∙ ap (λ (h : Op). most_long (form h) n) (sym e)
 
-pub change-most : (o : Op) (n : ℕ) → OneOf changing (tag_of the_type o) → 6 ≡ most_long (form o) n
-change-most o n h = rw (change-form o (sym (no-question-told o h)))
+pub change-most : (o : Op) (n : ℕ) → asks o ≡ false → 6 ≡ most_long (form o) n
+change-most o n h = rw (change-form o h)
 
 -- the longest line has room: so has this one
 pub roomy : (f : Full) → WellFormed f.store → (o : Op) (k room : ℕ) → k ≡ most_long (form o) (length f.answers) → k ≤ room → true ≡ leb (line_long (reply_of (inner o f))) room

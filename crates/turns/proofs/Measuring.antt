@@ -1,11 +1,9 @@
 -- How long the line of an operation is: of its number where it is refused, else of its answer. Assumes nothing.
 use mathlib.Core.Path.{◌≡◌, refl, sym, ap, ◌∙◌}
-use mathlib.Core.Bool.{true, false, not, ◌&&◌}
+use mathlib.Core.Bool.{true, false, not, ◌&&◌, true≢false}
 use mathlib.Core.List.{List, [], ◌∷◌}
 use Prim.Native.Nat.{ℕ, ◌+◌, ◌/◌, ◌≤◌, ◌<◌}
 use native.Mathlib.Omega.{arith}
-use types.Run.{OneOf, miss}
-use denote.Enum.Declared.{tag_of}
 use lib.Dec.{leb, eqb}
 use lib.ListN.{length}
 use borrow.Author.Tests.{leb-false}
@@ -18,7 +16,6 @@ use Rattle.tail.specs.Tail.{tail_ones}
 use Rattle.arraymap.specs.Index.{list_at}
 use Rattle.arraymap.specs.Show.{shown, CanList}
 use Rattle.lengths.specs.Length.{CanMeasureRow, CanMeasureTail, CanMeasureColumn}
-use Rattle.table.specs.contracts.Op.{the_type}
 use Rattle.table.specs.declared.Op.{Op}
 use Rattle.table.specs.declared.Op.TheVariants.{Make, Set, SwapR, SwapC, Add, On, Off, Freeze, Resize, Get, Count, Words, TailOnes, Iter, ColOnes, Size}
 use Rattle.table.specs.declared.RowRange.{RowRange}
@@ -44,8 +41,8 @@ use Rattle.listings.proofs.QueryLists.{iter-low, iter-sparse, iter-fits, iter-is
 use Rattle.listings.proofs.QueryColumn.{colones-wide, colones-sparse, colones-on, colones-exact, colones-fits, colones-is}
 use Rattle.lines.specs.Line.{line_long}
 use Rattle.lines.proofs.Writing.{long-none}
+use Rattle.operations.specs.Applied.{asks}
 use Rattle.operations.proofs.Arms.{aside}
-use Rattle.operations.proofs.Others.{changing}
 
 -- the same operation by another name
 pub as_line : (o p : Op) → o ≡ p → (f : Full) (k : ℕ) → k ≡ line_long (reply_of (inner p f)) → k ≡ line_long (reply_of (inner o f))
@@ -63,7 +60,7 @@ pub answer-line : (o : Op) (f : Full) → 0 ≡ refusal_of (inner o f) → (l : 
 answer-line o f free l e k q = q ∙ ap (λ m. line_long (ok m)) e ∙ ap (λ (r : Result). line_long r.reply) (sym (accepted o f free))
 
 -- ---- what changes the store answers nothing
-nothing-told : (o : Op) (t : Table) → OneOf changing (tag_of the_type o) → [] ≡ answer o t
+nothing-told : (o : Op) (t : Table) → asks o ≡ false → [] ≡ answer o t
 nothing-told (Make p) t h = refl
 nothing-told (Set p) t h = refl
 nothing-told (SwapR p) t h = refl
@@ -73,15 +70,15 @@ nothing-told On t h = refl
 nothing-told Off t h = refl
 nothing-told (Freeze p) t h = refl
 nothing-told (Resize p) t h = refl
-nothing-told (Get p) t h = absurd (miss changing 9 tt h)
-nothing-told (Count p) t h = absurd (miss changing 10 tt h)
-nothing-told (Words p) t h = absurd (miss changing 11 tt h)
-nothing-told (TailOnes p) t h = absurd (miss changing 12 tt h)
-nothing-told (Iter p) t h = absurd (miss changing 13 tt h)
-nothing-told (ColOnes p) t h = absurd (miss changing 14 tt h)
-nothing-told Size t h = absurd (miss changing 15 tt h)
+nothing-told (Get p) t h = absurd (true≢false h)
+nothing-told (Count p) t h = absurd (true≢false h)
+nothing-told (Words p) t h = absurd (true≢false h)
+nothing-told (TailOnes p) t h = absurd (true≢false h)
+nothing-told (Iter p) t h = absurd (true≢false h)
+nothing-told (ColOnes p) t h = absurd (true≢false h)
+nothing-told Size t h = absurd (true≢false h)
 
-pub done-line : (o : Op) (f : Full) → 0 ≡ refusal_of (inner o f) → OneOf changing (tag_of the_type o) → 3 ≡ line_long (reply_of (inner o f))
+pub done-line : (o : Op) (f : Full) → 0 ≡ refusal_of (inner o f) → asks o ≡ false → 3 ≡ line_long (reply_of (inner o f))
 done-line o f free h = answer-line o f free [] (nothing-told o (table_of f.store) h) 3 (sym long-none)
 
 -- ---- a number is the same whatever is in the answer buffer

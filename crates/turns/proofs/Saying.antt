@@ -5,8 +5,6 @@ use mathlib.Core.List.{List, [], ◌∷◌}
 use Prim.Native.Nat.{ℕ, ◌+◌, ◌-◌, ◌*◌, ◌^◌, ◌≤◌, ◌<◌}
 use native.Mathlib.Nat.{mul-le-mul_right}
 use native.Mathlib.Omega.{arith}
-use types.Run.{OneOf, miss}
-use denote.Enum.Declared.{tag_of}
 use lib.Seq.{sets}
 use borrow.Author.Tests.{leb-true}
 use lib.Dec.{leb}
@@ -14,7 +12,6 @@ use lib.ListN.{length, length-append, take, drop, get_or, get_or-eq_default}
 use Rattle.laws.specs.Parts.{part, stretch, over}
 use Rattle.laws.specs.Words.{words_for}
 use Rattle.laws.proofs.Parts.{stretch-length, stretch-part, part-is, tabled-length}
-use Rattle.table.specs.contracts.Op.{the_type}
 use Rattle.table.specs.declared.Op.{Op}
 use Rattle.table.specs.declared.Op.TheVariants as op
 use Rattle.table.specs.Step.{answer}
@@ -232,10 +229,7 @@ part_same op.Size s u e f = refl
 pub part-is-there : (o : Op) (s u : Store) (k : ℕ) → s.rows.homes ≡ u.rows.homes → s.head.n ≡ u.head.n → k ≡ part_at o s → k ≡ part_at o u
 part-is-there o s u k e f q = q ∙ part_same o s u e f
 
-abbrev pub unworded : List ℕ
-unworded = 0 ∷ 1 ∷ 2 ∷ 3 ∷ 4 ∷ 5 ∷ 6 ∷ 7 ∷ 8 ∷ 9 ∷ 10 ∷ 12 ∷ 13 ∷ 14 ∷ 15 ∷ []
-
-pub no_part : (o : Op) (s : Store) → OneOf unworded (tag_of the_type o) → 0 ≡ part_at o s
+pub no_part : (o : Op) (s : Store) → ((p : RowTail) → o ≡ op.Words p → ⊥) → 0 ≡ part_at o s
 no_part (op.Make p) s h = refl
 no_part (op.Set p) s h = refl
 no_part (op.SwapR p) s h = refl
@@ -247,7 +241,7 @@ no_part (op.Freeze p) s h = refl
 no_part (op.Resize p) s h = refl
 no_part (op.Get p) s h = refl
 no_part (op.Count p) s h = refl
-no_part (op.Words p) s h = absurd (miss unworded 11 tt h)
+no_part (op.Words p) s h = absurd (h p refl)
 no_part (op.TailOnes p) s h = refl
 no_part (op.Iter p) s h = refl
 no_part (op.ColOnes p) s h = refl
