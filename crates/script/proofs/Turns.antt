@@ -10,7 +10,7 @@ use lib.ListN.{length, length-append}
 use lib.Seq.{sets, length-sets}
 use borrow.Author.Tests.{leb-true}
 use Rattle.laws.specs.Plain.{pick}
-use Rattle.table.specs.Refusals.{Verdict, done}
+use Rattle.table.specs.Refusals.{Verdict}
 use Rattle.table.specs.Run.{Reply, ok, nay, reply_of, kept, runs, run, perform, Record, does, wrong, cut}
 use Rattle.table.specs.Run as table
 use Rattle.model.specs.Store.{Full}

@@ -1,7 +1,7 @@
 -- What is told of a call is there to be read, and its line is the line of the definition's reply. Assumes nothing.
 use mathlib.Core.Path.{◌≡◌, refl, sym, ap, ◌∙◌}
 use mathlib.Core.Bool.{true, false}
-use mathlib.Core.List.{List, [], ◌∷◌}
+use mathlib.Core.List.{List}
 use Prim.Native.Nat.{ℕ, ◌+◌, ◌-◌, ◌*◌, ◌^◌, ◌≤◌, ◌<◌}
 use native.Mathlib.Nat.{mul-le-mul_right}
 use native.Mathlib.Omega.{arith}
@@ -9,7 +9,7 @@ use lib.Seq.{sets}
 use borrow.Author.Tests.{leb-true}
 use lib.Dec.{leb}
 use lib.ListN.{length, length-append, take, drop, get_or, get_or-eq_default}
-use Rattle.laws.specs.Parts.{part, stretch, over}
+use Rattle.laws.specs.Parts.{stretch, over}
 use Rattle.laws.specs.Words.{words_for}
 use Rattle.laws.proofs.Parts.{stretch-length, stretch-part, part-is, tabled-length}
 use Rattle.table.specs.declared.Op.{Op}
