@@ -3,16 +3,13 @@ use mathlib.Core.Path.{◌≡◌, refl, sym, ap, ◌∙◌}
 use mathlib.Core.Bool.{Bool, true, false, ◌||◌}
 use mathlib.Core.List.{List, []}
 use Prim.Native.Nat.{ℕ, ◌≤◌, ◌<◌}
-use lib.ListN.{length}
-use lib.Dec.{leb}
 use borrow.Author.Tests.{le-leb, lt-leb}
 use Rattle.laws.specs.Plain.{pick}
-use Rattle.laws.specs.Parts.{stretch}
 use Rattle.laws.proofs.Parts.{stretch-length}
 use Rattle.table.specs.declared.Op.{Op}
 use Rattle.table.specs.Refusals.{Verdict, refused}
 use Rattle.table.specs.Room.{kind, is_make}
-use Rattle.table.specs.Run.{Reply, ok, nay, reply_of}
+use Rattle.table.specs.Run.{ok, nay, reply_of}
 use Rattle.model.specs.Store as model
 use Rattle.model.specs.Step.{Result, result_of, step}
 use Rattle.store_head.specs.declared.Numbers.{Numbers}
@@ -37,8 +34,8 @@ use Rattle.clatterthaw_host.specs.declared.PlainSize.{PlainSize}
 use Rattle.clatterthaw_host.specs.declared.PlainList.{PlainList}
 use Rattle.clatterthaw_host.specs.declared.PlainWords.{PlainWords}
 use Rattle.clatterthaw_host.specs.declared.PlainRan.{PlainRan}
-use Rattle.clatterthaw_host.specs.Crossing.{numbers_of, plain_of, sound, crossing, number_by, size_by, list_by, words_by, changed_by, Crossed, ran_by, running, RunCrossed}
-use Rattle.clatterthaw_host.specs.Told.{plain_numbers, of_number, of_sized, of_listed, of_words, of_changed, of_ran}
+use Rattle.clatterthaw_host.specs.Crossing.{numbers_of, sound, crossing, number_by, size_by, list_by, words_by, changed_by, Crossed, ran_by, running, RunCrossed}
+use Rattle.clatterthaw_host.specs.Told.{of_number, of_sized, of_listed, of_words, of_changed, of_ran}
 use Rattle.clatterthaw_host.proofs.Crosses.{there_and_back}
 
 abbrev part : ℕ → ℕ → PlainWords

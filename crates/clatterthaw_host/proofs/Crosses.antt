@@ -1,5 +1,5 @@
 -- A host's numbers and a head are the same, and each answer crosses as it is. Assumes nothing.
-use mathlib.Core.Path.{◌≡◌, refl, sym, ap, ◌∙◌}
+use mathlib.Core.Path.{◌≡◌, refl}
 use mathlib.Core.Bool.{Bool, true, false}
 use mathlib.Core.List.{List}
 use Prim.Native.Nat.{ℕ, ◌*◌, ◌^◌, ◌≤◌, ◌<◌}
@@ -9,7 +9,6 @@ use lib.ListN.{length, get_or, get_or-eq_default}
 use Rattle.laws.specs.Plain.{num}
 use Rattle.laws.specs.Words.{words_for}
 use Rattle.store_head.specs.declared.Numbers.{Numbers}
-use Rattle.store_head.specs.Lent.{head_of}
 use Rattle.sparse_matrix.specs.declared.Head.{Head}
 use Rattle.sparse_matrix.specs.declared.Changed.{Changed}
 use Rattle.sparse_matrix.specs.declared.Changed.TheVariants as changed
@@ -19,7 +18,7 @@ use Rattle.script.specs.declared.Ran.TheVariants as ran
 use Rattle.clatterthaw_host.specs.declared.PlainHead.{PlainHead}
 use Rattle.clatterthaw_host.specs.declared.PlainChanged.{PlainChanged}
 use Rattle.clatterthaw_host.specs.declared.PlainRan.{PlainRan}
-use Rattle.clatterthaw_host.specs.Crossing.{numbers_of, plain_of}
+use Rattle.clatterthaw_host.specs.Crossing.{numbers_of}
 use Rattle.clatterthaw_host.specs.Told.{plain_numbers, of_changed, of_ran}
 
 -- ---- a head that crosses is the same head

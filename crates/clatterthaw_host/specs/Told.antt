@@ -1,6 +1,5 @@
 -- Each answer of the store as a host's numbers. Assumes nothing.
 use Rattle.std.specs.Prelude.{ℕ}
-use Rattle.laws.specs.Plain.{num}
 use Rattle.store_head.specs.declared.Numbers.{Numbers}
 use Rattle.store_head.specs.declared.Number.{Number}
 use Rattle.store_head.specs.declared.Number.TheVariants as numbered

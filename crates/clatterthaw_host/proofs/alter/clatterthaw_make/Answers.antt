@@ -1,0 +1,22 @@
+-- `clatterthaw_host::alter::clatterthaw_make` meets its contract. Assumes nothing.
+use mathlib.Core.List.{[]}
+use Rattle.table.specs.declared.Op.{Op}
+use Rattle.table.specs.declared.Op.TheVariants as op
+use Rattle.model.specs.Store.{Full}
+use Rattle.store_head.specs.declared.Numbers.{Numbers}
+use Rattle.store_head.specs.Lent.{store_of, full_of}
+use Rattle.clatterthaw_host.specs.Crossing.{numbers_of}
+use Rattle.clatterthaw_host.proofs.Calls.{change-crossed, for-make}
+use mathlib.Core.Path.{refl}
+use Rattle.clatterthaw_host.proofs.alter.clatterthaw_make.Goals.{Start}
+use Rattle.clatterthaw_host.proofs.alter.clatterthaw_make.Goals as goal
+
+-- the operation, and the store as it was lent, over a head
+abbrev asked : Start → Op
+asked c = op.Make (record { h = c.args.h; w = c.args.w; n = c.args.n; slots = c.args.per_row })
+
+abbrev lent : Start → Numbers → Full
+lent c d = full_of (store_of d c.args.slots.now c.args.counts.now c.args.row_homes.now c.args.row_logicals.now c.args.column_homes.now c.args.column_logicals.now c.args.marks.now c.args.starts.now c.args.entries.now c.args.words.now) []
+
+pub returns : goal.returns
+returns c = change-crossed c.args.p (asked (goal.at.returns c).Start) (lent (goal.at.returns c).Start) c.head.result.0 c.head.ensures (for-make c.args.p (asked (goal.at.returns c).Start) (lent (goal.at.returns c).Start (numbers_of c.args.p)) refl) _ (λ z. refl) c.new-x.result c.changed.result c.changed.ensures c.new-x.ensures
