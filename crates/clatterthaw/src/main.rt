@@ -8,6 +8,7 @@ use sparse_matrix::Head;
 
 // All of standard input, over a 0 by 0 store. A proved loop has to end, and nothing says that the input does: the count of turns is one that no run uses up.
 fn session(
+    rt: &HostRuntime,
     slots: &mut [u16],
     counts: &mut [u16],
     row_homes: &mut [u32],
@@ -26,7 +27,7 @@ fn session(
     let mut have = 0;
     let mut turns = u64::MAX;
     while turns > 0 {
-        let end = pieces::more(buf, have);
+        let end = pieces::more(rt, buf, have);
         let more = have < end;
         let w = pieces::ready(buf, end, more);
         let p = pump::pump(
@@ -59,7 +60,7 @@ fn session(
 
 // "It lends 256 rows, 256 columns, 257 index starts, 8,192 slot entries, 1,024 tail words, 4,096 index entries, 256 answer places." A record has at most
 // 65,538 bytes, so half of `buf` holds any; a line of this room is far shorter than `out`.
-fn main() {
+fn main(rt: HostRuntime) {
     let mut slots = [0u16; 8192];
     let mut counts = [0u16; 256];
     let mut row_homes = [0u32; 256];
@@ -74,6 +75,7 @@ fn main() {
     let mut buf = [0u8; 131072];
     let mut out = [0u8; 65536];
     session(
+        &rt,
         &mut slots,
         &mut counts,
         &mut row_homes,

@@ -1,14 +1,18 @@
 // Standard input in pieces: a record may straddle two reads.
 ghost use Rattle.std.specs.Prelude.{◌≤◌, length};
 
-// Reads once after the `have` bytes that are there, and answers how many there are then: no more at the end.
-pub fn more(buf: &mut [u8], have: usize) -> usize
+use std::io::Read;
+
+// Reads once after the `have` bytes that are there, and answers how many there are then: no more at the end, or where the read fails.
+pub fn more(rt: &HostRuntime, buf: &mut [u8], have: usize) -> usize
     requires { have ≤ length buf.old }
     ensures { (have ≤ result) × (result ≤ length buf.new) }
 {
     let part = &mut buf[have..];
-    let got = libc::read(0, part);
-    have + io::count(got, part)
+    match rt.stdin().read(part) {
+        Ok(got) => have + got,
+        Err(_) => have,
+    }
 }
 
 // How many bytes of s are whole records, by their lengths alone.

@@ -1,0 +1,10 @@
+-- `clatterthaw::pieces::whole` meets its contract. Assumes nothing.
+use lib.ListN.{length}
+use Prim.Native.Nat.{◌-◌, ◌≤◌}
+use Rattle.clatterthaw.proofs.pieces.whole.Given as goal
+
+abbrev pub invariant-loop-at : goal.invariant-loop-at
+invariant-loop-at l = l.at ≤ length l.s
+
+abbrev pub decreases-loop-at : goal.decreases-loop-at
+decreases-loop-at l = length l.s - l.at
