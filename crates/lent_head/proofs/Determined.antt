@@ -1,8 +1,6 @@
 -- Any two outcomes that a contract over a lent head admits are equal: what is told, the head and every lent number, which the store holds. Assumes nothing.
 use mathlib.Core.Path.{◌≡◌, refl, sym, ap, ◌∙◌}
 use mathlib.Core.List.{[]}
-use Prim.Native.Nat.{ℕ}
-use Rattle.table.specs.Run.{Reply, ok, nay}
 use Rattle.model.specs.Store.{Store}
 use Rattle.model.specs.Step.{Result}
 use Rattle.store_head.proofs.Replies.{number_in, never}

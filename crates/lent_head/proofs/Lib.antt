@@ -1,3 +1,2 @@
-pub mod Face
 pub mod InPlace
 pub mod Determined

@@ -1,7 +1,6 @@
 #![tactic(auto)]
 // The thin face: a head that is lent and changed in place (01, "take it apart, call the by-value method and store the result"). Each function hands the head to the
-// method of the same name, stores the head that comes back, and tells the rest; so a caller that holds one head can't go on with an old one. The proofs are walks of
-// the compiled steps, since a reference to a struct is outside of what the prover walks by itself.
+// method of the same name, stores the head that comes back, and tells the rest; so a caller that holds one head can't go on with an old one.
 ghost use Rattle.std.specs.Prelude.{◌≡◌};
 ghost use Rattle.lent_head.specs.Left.{head_after, change_of};
 
