@@ -1,4 +1,4 @@
-//! Links the static library that `rt staticlib clatterthaw_host` writes. CLATTERTHAW_LIB names another folder that holds it.
+//! Links the static library that `tools/library` builds. CLATTERTHAW_LIB names another folder that holds it.
 use std::env;
 use std::path::PathBuf;
 
