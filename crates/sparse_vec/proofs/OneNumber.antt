@@ -15,7 +15,7 @@ use Rattle.laws.proofs.Bools.{by-test, not-both, or-first, or-second}
 use Rattle.laws.proofs.Numbers.{lt-or-le, by_order}
 use Rattle.laws.proofs.Members.{none_below}
 use Rattle.laws.proofs.Merge.{merge-nil}
-use Rattle.laws.proofs.Parts.{get_d_past, part_length, part_at, put-length, put-below, put-in, put-above}
+use Rattle.laws.proofs.Parts.{get_or-past, part_length, part_at, put-length, put-below, put-in, put-above}
 use Rattle.sparse_vec.specs.Row.{rank, put_row}
 use Rattle.sparse_vec.specs.Passes.{insert_at, remove_at, CanBring}
 use Rattle.sparse_vec.proofs.Places.{is_row}
@@ -38,7 +38,7 @@ module _ (i x : ℕ) (l : List ℕ) (h : i ≤ length l) where
   unfolding insert_at
   insert-high q k e o =
       let z : i + (q - i) ≡ q = omega arith in
-      get_d_past (take i l) (x ∷ drop i l) i (suc (q - i)) k 0 (length-take-le i l h) (omega arith)
+      get_or-past (take i l) (x ∷ drop i l) i (suc (q - i)) k 0 (length-take-le i l h) (omega arith)
       ∙ get_or-drop i l (q - i) 0 ∙ ap (λ (m : ℕ). get_or l m 0) z
 
 module _ (i : ℕ) (l : List ℕ) (h : i < length l) where
@@ -54,7 +54,7 @@ module _ (i : ℕ) (l : List ℕ) (h : i < length l) where
   unfolding remove_at
   remove-high k o =
       let z : suc i + (k - i) ≡ suc k = omega arith in
-      get_d_past (take i l) (drop (suc i) l) i (k - i) k 0 (length-take-le i l (omega arith)) (omega arith)
+      get_or-past (take i l) (drop (suc i) l) i (k - i) k 0 (length-take-le i l (omega arith)) (omega arith)
       ∙ get_or-drop (suc i) l (k - i) 0 ∙ ap (λ (m : ℕ). get_or l m 0) z
 
 -- ---- what the two moves leave

@@ -9,7 +9,7 @@ use lib.Seq.{ext_get_or, length-take-le, get_or-take, get_or-drop}
 use Rattle.laws.specs.Rows.{Rising}
 use Rattle.laws.specs.Parts.{part, put_at, pad_to}
 use Rattle.laws.proofs.Numbers.{lt-or-le}
-use Rattle.laws.proofs.Parts.{get_d_past, pad-length, pad-low, pad-high, pad-take, part_length, part_at, put-length, put-below, put-in, put-above, put-part, part_apart, put_same}
+use Rattle.laws.proofs.Parts.{get_or-past, pad-length, pad-low, pad-high, pad-take, part_length, part_at, put-length, put-below, put-in, put-above, put-part, part_apart, put_same}
 use Rattle.sparse_vec.specs.Row.{put_row, HasRow}
 
 -- two runs that differ within the stretch only become one by a put
@@ -60,7 +60,7 @@ put-join S b r t c e fit =
     first k l = get_or-append r t 0 k l
 
     second : (k : ℕ) → length r ≤ k → get_or (r ++ t) k 0 ≡ get_or t (k - length r) 0
-    second k l = get_d_past r t (length r) (k - length r) k 0 refl (omega arith)
+    second k l = get_or-past r t (length r) (k - length r) k 0 refl (omega arith)
 
 -- ---- a row in its stretch
 module _ (S : List ℕ) (at cap : ℕ) (r : List ℕ) (fit : at + cap ≤ length S) (room : length r ≤ cap) where
