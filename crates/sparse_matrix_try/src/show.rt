@@ -1,5 +1,4 @@
 // A trial's line as the script program writes it: `ok` with numbers, or `no` and the number of a refusal.
-use libc::STDOUT_FILENO;
 use sparse_matrix::{Number, Sized};
 
 // The number in 64 bits.
@@ -9,29 +8,29 @@ fn wide(x: u32) -> u64 {
 
 // A space and the number.
 fn number(x: u64) {
-    io::write_all(STDOUT_FILENO, b" ");
-    io::print_decimal(STDOUT_FILENO, x);
+    io::write_all(1, b" ");
+    io::print_decimal(1, x);
 }
 
 // An accepted call without an answer.
 pub fn done() {
-    io::write_all(STDOUT_FILENO, b"ok\n");
+    io::write_all(1, b"ok\n");
 }
 
 // A refused call.
 pub fn refused(k: u32) {
-    io::write_all(STDOUT_FILENO, b"no");
+    io::write_all(1, b"no");
     number(wide(k));
-    io::write_all(STDOUT_FILENO, b"\n");
+    io::write_all(1, b"\n");
 }
 
 // What GET, COUNT or WORDS' first call told.
 pub fn told(x: Number) {
     match x {
         Number::Is(v) => {
-            io::write_all(STDOUT_FILENO, b"ok");
+            io::write_all(1, b"ok");
             number(wide(v));
-            io::write_all(STDOUT_FILENO, b"\n");
+            io::write_all(1, b"\n");
         }
         Number::No(k) => refused(k),
     }
@@ -41,11 +40,11 @@ pub fn told(x: Number) {
 pub fn sizes(x: Sized) {
     match x {
         Sized::Is(s) => {
-            io::write_all(STDOUT_FILENO, b"ok");
+            io::write_all(1, b"ok");
             number(wide(s.h));
             number(wide(s.w));
             number(wide(s.n));
-            io::write_all(STDOUT_FILENO, b"\n");
+            io::write_all(1, b"\n");
         }
         Sized::No(k) => refused(k),
     }
@@ -69,9 +68,9 @@ fn numbers(list: &[u32], n: u32) {
 
 // The first n answers.
 pub fn list(answers: &[u32], n: u32) {
-    io::write_all(STDOUT_FILENO, b"ok");
+    io::write_all(1, b"ok");
     numbers(answers, n);
-    io::write_all(STDOUT_FILENO, b"\n");
+    io::write_all(1, b"\n");
 }
 
 // Each word of the list.
@@ -85,9 +84,9 @@ fn long_numbers(list: &[u64]) {
 
 // The words handed back.
 pub fn words(ws: &[u64]) {
-    io::write_all(STDOUT_FILENO, b"words");
+    io::write_all(1, b"words");
     long_numbers(ws);
-    io::write_all(STDOUT_FILENO, b"\n");
+    io::write_all(1, b"\n");
 }
 
 fn wide_8(x: u8) -> u64 {
@@ -130,28 +129,28 @@ pub fn maps(
     column_homes: &[u16],
     column_logicals: &[u16],
 ) {
-    io::write_all(STDOUT_FILENO, b"maps");
+    io::write_all(1, b"maps");
     numbers_32(row_homes);
     numbers_32(row_logicals);
     numbers_16(column_homes);
     numbers_16(column_logicals);
-    io::write_all(STDOUT_FILENO, b"\n");
+    io::write_all(1, b"\n");
 }
 
 // The rows' slots and counts, and the tail's words.
 pub fn rows(slots: &[u16], counts: &[u16], ws: &[u64]) {
-    io::write_all(STDOUT_FILENO, b"rows");
+    io::write_all(1, b"rows");
     numbers_16(slots);
     numbers_16(counts);
     long_numbers(ws);
-    io::write_all(STDOUT_FILENO, b"\n");
+    io::write_all(1, b"\n");
 }
 
 // The index.
 pub fn index(marks: &[u8], starts: &[u64], entries: &[u32]) {
-    io::write_all(STDOUT_FILENO, b"index");
+    io::write_all(1, b"index");
     numbers_8(marks);
     long_numbers(starts);
     numbers_32(entries);
-    io::write_all(STDOUT_FILENO, b"\n");
+    io::write_all(1, b"\n");
 }
