@@ -171,7 +171,7 @@ module _ (u : Store) (k n y z : ℕ) (k-is : k ≡ u.head.slots) (n-is : n ≡ u
     (out : (had ≡ member z (row_of slots counts k y))
     × ((S ≡ pick (member z (row_of slots counts k y)) (put_row slots (y * k) k (take_out z (row_of slots counts k y))) slots)
     × (C ≡ pick (member z (row_of slots counts k y)) (set counts y (length (take_out z (row_of slots counts k y)))) counts)))
-    (in_Tail : W ≡ pick had (tail_put words n y 0 true) words) where
+    (in_words : W ≡ pick had (tail_put words n y 0 true) words) where
   same_row : row_of slots counts k y ≡ row u y
   same_row = rw (h.slots-are, h.counts-are, k-is)
 
@@ -180,7 +180,7 @@ module _ (u : Store) (k n y z : ℕ) (k-is : k ≡ u.head.slots) (n-is : n ≡ u
       record {
         slots-are = out.1.0 ∙ rw (same_row, h.slots-are, k-is) (entries-of (member z (row u y)) (moved u z y) u);
         counts-are = out.1.1 ∙ rw (same_row, h.counts-are) (counts_of (member z (row u y)) (moved u z y) u);
-        words_are = in_Tail ∙ rw (out.0, same_row, h.words_are, n-is) (words_of (member z (row u y)) (moved u z y) u);
+        words_are = in_words ∙ rw (out.0, same_row, h.words_are, n-is) (words_of (member z (row u y)) (moved u z y) u);
       }
 
 -- ---- accepted
@@ -282,12 +282,12 @@ module _ (s : Store) (v : WellFormed s) (p : Column) (free : 0 ≡ refusal_of (i
               × (C ≡ pick (member z (row_of slots counts s.head.slots y)) (set counts y (length (take_out z (row_of slots counts s.head.slots y)))) counts))
               → W ≡ pick had (tail_put words (s.head.n + 1) y 0 true) words
               → Turn (over s ws) z list S C W (i + 1)
-          turn-next S C W had out in_Tail =
+          turn-next S C W had out in_words =
               record {
                 low = omega (arith, test);
                 holds = subst (λ (u : Store). Holds u S C W) next
                     (one-row (freeze_rows z (take i list) (wider (over s ws))) s.head.slots (s.head.n + 1) y z (ap (λ (d : Head). d.slots) (sym f.head)) (add-one s.head.n ∙ ap (λ (d : Head). d.n) (sym f.head))
-                    slots counts words t.holds S C W had out in_Tail);
+                    slots counts words t.holds S C W had out in_words);
               }
             where
               next : freeze_row (freeze_rows z (take i list) (wider (over s ws))) z y ≡ freeze_rows z (take (i + 1) list) (wider (over s ws))
