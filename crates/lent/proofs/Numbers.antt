@@ -3,9 +3,9 @@ use mathlib.Core.Path.{◌≡◌, refl, sym, ap, ap₂, ◌∙◌}
 use mathlib.Core.List.{List, ◌++◌, ◌∷◌, map}
 use Prim.Native.Nat.{ℕ, zero, suc, ◌+◌, ◌-◌, ◌≤◌, ◌<◌}
 use native.Mathlib.Omega.{arith}
-use lib.ListN.{length, get_or, take, drop, replicate, length-drop, length-replicate}
+use lib.ListN.{length, get_or, set, take, drop, replicate, length-drop, length-replicate}
 use lib.Seq.{paste}
-use Rattle.std.proofs.lemmas.List.{length-map, get_or-map, map-append, drop-map, length-take-le, take_all}
+use Rattle.std.proofs.lemmas.List.{length-map, get_or-map, map-append, map-set, drop-map, length-take-le, take_all}
 use Rattle.std.proofs.Common.{append_assoc}
 use Rattle.std.specs.List.{take-map, copy_within}
 use Rattle.laws.specs.Parts.{part, put_at, zeros}
@@ -84,3 +84,7 @@ module _ {T : Type 0} (num : T → ℕ) (nums : List T → List ℕ) (law : (s :
       (ap nums ey ∙ nums-take (low + n - low) (drop low f) ∙ ap₂ (λ (k : ℕ) (u : List ℕ). take k u) q (nums-drop low f ∙ ap (drop low) first))
       (nums-drop n b ∙ ap (drop n) second))
       ∙ put-parts (nums s) low high n h g
+
+  -- one number written
+  pub nums-set : (s : List T) (i : ℕ) (x : T) → nums (set s i x) ≡ set (nums s) i (num x)
+  nums-set s i x = rw (law, law) (map-set num s i x)
