@@ -1,4 +1,4 @@
-// Each function of `tail` behind a test of what it requires: at least six words, three rows, 128 columns. Where the test fails, nothing is done and `?` is written.
+// Each function of `tail`, and the exchange of `lent`, behind a test of what it requires: at least six words, three rows, 128 columns. Where the test fails, nothing is done and `?` is written.
 use crate::show;
 
 // The line of a trial that was not done.
@@ -7,14 +7,9 @@ fn out_of_reach() {
 }
 
 // The first six words.
-pub fn fill(ws: &mut [u64], a: u64, b: u64, c: u64, d: u64, e: u64, f: u64) {
+pub fn fill(ws: &mut [u64], six: [u64; 6]) {
     if 6 <= ws.len() {
-        ws[0] = a;
-        ws[1] = b;
-        ws[2] = c;
-        ws[3] = d;
-        ws[4] = e;
-        ws[5] = f;
+        ws[..6].copy_from_slice(&six);
     }
 }
 
@@ -65,17 +60,11 @@ pub fn row_words(ws: &[u64], s: usize, y: usize) {
 
 // Two stretches exchanged.
 pub fn exchange(ws: &mut [u64], a: usize, b: usize, n: usize) {
-    if 6 <= ws.len() && a <= 4 && b <= 4 && n <= 2 {
-        if a + n <= b {
-            tail::exchange(ws, a, b, n);
-            return;
-        }
-        if b + n <= a {
-            tail::exchange(ws, a, b, n);
-            return;
-        }
+    if 6 <= ws.len() && a <= 4 && b <= 4 && n <= 2 && (a + n <= b || b + n <= a) {
+        lent::exchange(ws, a, b, n);
+    } else {
+        out_of_reach();
     }
-    out_of_reach();
 }
 
 // A line with the columns that hold one, and a line with how many the count says.

@@ -1,10 +1,5 @@
 // A trial's line: its label, and numbers.
 
-// The number in 64 bits.
-pub fn wide(x: u32) -> u64 {
-    x as u64
-}
-
 // A space and the number.
 pub fn number(x: u64) {
     io::write_all(1, b" ");
@@ -19,19 +14,15 @@ pub fn end() {
 // A line with a bit.
 pub fn bit(label: &[u8], v: bool) {
     io::write_all(1, label);
-    if v {
-        number(1);
-    } else {
-        number(0);
-    }
+    number(u64::from(v));
     end();
 }
 
 // A line with the words.
 pub fn words(label: &[u8], ws: &[u64]) {
     io::write_all(1, label);
-    for i in 0..ws.len() {
-        number(ws[i]);
+    for w in ws {
+        number(*w);
     }
     end();
 }
@@ -39,10 +30,8 @@ pub fn words(label: &[u8], ws: &[u64]) {
 // A line with the first n of the answers.
 pub fn answers(label: &[u8], answers: &[u32], n: usize) {
     io::write_all(1, label);
-    for i in 0..answers.len() {
-        if i < n {
-            number(wide(answers[i]));
-        }
+    for a in answers.iter().take(n) {
+        number(u64::from(*a));
     }
     end();
 }

@@ -1,5 +1,4 @@
 -- `with_bit` meets its contract. Assumes nothing.
-use native.Mathlib.Omega.{arith}
 use Rattle.tail.proofs.Digits.{or-is-put, mask-is-put}
 use Rattle.tail.proofs.cell.with_bit.Goals as goal
 
@@ -8,9 +7,3 @@ returns-then-v c = rw c.if-v.true (or-is-put _ _ c.requires)
 
 pub returns-else-v : goal.returns-else-v
 returns-else-v c = rw c.if-v.false (mask-is-put _ _ c.requires c.ranges.word.fits)
-
-pub overflow_shl-result : goal.overflow_shl-result
-overflow_shl-result c = omega arith
-
-pub overflow_shl-result-else-v : goal.overflow_shl-result-else-v
-overflow_shl-result-else-v c = omega arith

@@ -29,17 +29,5 @@ returns c = listing-end _ _ _ _ _ _ c.loop-w.invariant.2 (word_none _ _ (omega a
 pub overflow_add-answers : goal.overflow_add-answers
 overflow_add-answers c = omega (arith, fits_head _ _ _ c.loop-w.invariant.1 (low (goal.at.overflow_add-answers c).In-loop-w))
 
-pub offset_bounds-answers-next : goal.offset_bounds-answers-next
-offset_bounds-answers-next c = omega (arith, c.loop-w.invariant.2.more, ap length (low (goal.at.offset_bounds-answers-next c).In-loop-w))
-
 pub bounds-answers-next : goal.bounds-answers-next
 bounds-answers-next c = omega (arith, c.loop-w.invariant.2.more, ap length (low (goal.at.bounds-answers-next c).In-loop-w))
-
-pub overflow_add-next : goal.overflow_add-next
-overflow_add-next c = omega (arith, c.loop-w.invariant.2.more, ap length (low (goal.at.overflow_add-next c).In-loop-w))
-
-pub overflow_sub-w : goal.overflow_sub-w
-overflow_sub-w c = omega arith
-
-pub loop-w-smaller : goal.loop-w-smaller
-loop-w-smaller c = omega (arith, and_le_r c.loop-w.w (c.loop-w.w - 1))

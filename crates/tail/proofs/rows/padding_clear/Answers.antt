@@ -25,35 +25,20 @@ returns-then-pad-eq0 c = pads-none _ _ _ (omega (arith, c.padding_of-pad.ensures
 pub loop-y-init : goal.loop-y-init
 loop-y-init c = passed_start _ _
 
-pub returns-then-ws-i-ne0 : goal.returns-then-ws-i-ne0
-returns-then-ws-i-ne0 c = passed-fails _ _ _ c.loop-y.invariant (omega arith) (pad-false _ _ _ _ _ c.words_for-s.ensures c.padding_of-pad.ensures c.if-ws-i-ne0.true)
+pub returns-then-ws-y-ne0 : goal.returns-then-ws-y-ne0
+returns-then-ws-y-ne0 c = passed-fails _ _ _ c.loop-y.invariant (omega arith) (pad-false _ _ _ _ _ c.words_for-s.ensures c.padding_of-pad.ensures c.if-ws-y-ne0.true)
 
 pub loop-y-preserved : goal.loop-y-preserved
-loop-y-preserved c = passed-more _ _ _ c.loop-y.invariant (omega arith) (pad-true _ _ _ _ _ c.words_for-s.ensures c.padding_of-pad.ensures c.if-ws-i-ne0.false)
+loop-y-preserved c = passed-more _ _ _ c.loop-y.invariant (omega arith) (pad-true _ _ _ _ _ c.words_for-s.ensures c.padding_of-pad.ensures c.if-ws-y-ne0.false)
 
 pub returns : goal.returns
 returns c = passed-done _ _ _ c.loop-y.invariant (omega arith)
 
-pub overflow_cast-mask : goal.overflow_cast-mask
-overflow_cast-mask c = omega (arith, c.padding_of-pad.ensures)
-
-pub overflow_shl-mask : goal.overflow_shl-mask
-overflow_shl-mask c = omega (arith, c.padding_of-pad.ensures)
-
 pub overflow_sub-mask : goal.overflow_sub-mask
 overflow_sub-mask c = rw (shl_one c.padding_of-pad.result (omega (arith, c.padding_of-pad.ensures))) (omega (arith, pow_pos c.padding_of-pad.result))
 
-pub overflow_mul-i : goal.overflow_mul-i
-overflow_mul-i c = omega (arith, ends (goal.at.overflow_mul-i c).In-loop-y)
+pub overflow_mul-y : goal.overflow_mul-y
+overflow_mul-y c = omega (arith, ends (goal.at.overflow_mul-y c).In-loop-y)
 
-pub offset_bounds-ws-i : goal.offset_bounds-ws-i
-offset_bounds-ws-i c = omega (arith, ends (goal.at.offset_bounds-ws-i c).In-loop-y)
-
-pub bounds-ws-i : goal.bounds-ws-i
-bounds-ws-i c = omega (arith, ends (goal.at.bounds-ws-i c).In-loop-y)
-
-pub overflow_step-y : goal.overflow_step-y
-overflow_step-y c = omega arith
-
-pub loop-y-smaller : goal.loop-y-smaller
-loop-y-smaller c = omega arith
+pub bounds-ws-y : goal.bounds-ws-y
+bounds-ws-y c = omega (arith, ends (goal.at.bounds-ws-y c).In-loop-y)

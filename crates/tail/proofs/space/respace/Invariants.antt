@@ -1,12 +1,8 @@
 -- `respace` meets its contract: the rows from y on are re-spaced. Assumes nothing.
-use Prim.Native.Nat.{◌+◌, ◌*◌, ◌≤◌}
-use mathlib.Core.Path.{◌≡◌}
+use Prim.Native.Nat.{◌+◌, ◌*◌}
 use Rattle.tail.specs.Runs.{spaced}
 use Rattle.tail.proofs.Runs.{Between}
 use Rattle.tail.proofs.space.respace.Given as goal
 
 abbrev pub invariant-loop-y : goal.invariant-loop-y
-invariant-loop-y l = (l.y ≤ l.h) × (l.from ≡ l.y * l.s) × (l.to ≡ l.y * (l.s + 1)) × Between l.initial.ws (spaced l.initial.ws l.s l.h) (l.y * (l.s + 1)) (l.h * (l.s + 1)) l.ws
-
-abbrev pub decreases-loop-y : goal.decreases-loop-y
-decreases-loop-y l = l.y
+invariant-loop-y l = Between l.initial.ws (spaced l.initial.ws l.s l.h) (l.y * (l.s + 1)) (l.h * (l.s + 1)) l.ws
