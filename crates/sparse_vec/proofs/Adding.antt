@@ -15,10 +15,15 @@ use Rattle.laws.proofs.Merge.{merge-length}
 use Rattle.laws.proofs.Parts.{zeros-length, pad-length, part_length}
 use Rattle.sparse_vec.specs.Row.{put_row, CanAdd, row_sum, sum_in, added_to}
 use Rattle.sparse_vec.specs.Passes.{CanMerge, CanLay, Halfway, Half, Settled}
-use Rattle.sparse_vec.specs.declared.Sum.{Sum}
-use Rattle.sparse_vec.specs.declared.Sum.TheVariants.{Done, Full}
+use Rattle.std.specs.Prelude.{Option, Some, None}
 use Rattle.sparse_vec.proofs.Places.{put-outside, put-join, row-wider}
 use Rattle.sparse_vec.proofs.Answers.{sum_done, sum-full}
+
+-- the sum of the two rows, counted in what stands at their places
+pub sum-counted : (S : List ℕ) (d dl s sl : ℕ) (a b : List ℕ) → a ≡ part S d dl → b ≡ part S s sl → (n : ℕ) → n ≡ length (xor_merge a b)
+    → n ≡ length (row_sum S d dl s sl)
+unfolding row_sum
+sum-counted S d dl s sl a b p q n e = e ∙ rw (p, q)
 
 -- a row put into two runs that differ within the stretch only
 outside : (S T : List ℕ) (d cap : ℕ) (r : List ℕ) → d + cap ≤ length S → length r ≤ cap → length T ≡ length S
@@ -42,7 +47,7 @@ module _ (S : List ℕ) (d dl s sl cap : ℕ) (C : CanAdd S d dl s sl cap) where
   fits-at-once h = sym (le-leb (length (row_sum S d dl s sl)) cap (omega (arith, sum-most, C.row.room)))
 
   -- ---- a row of one number
-  pub one-done : (W : List ℕ) (r : Sum) → sl ≡ 1
+  pub one-done : (W : List ℕ) (r : Option ℕ) → sl ≡ 1
       → (r ≡ sum_in cap (xor_merge (part S d dl) (get_or S s 0 ∷ []))) × (W ≡ added_to S d cap (xor_merge (part S d dl) (get_or S s 0 ∷ [])))
       → (r ≡ sum_in cap (row_sum S d dl s sl)) × (W ≡ added_to S d cap (row_sum S d dl s sl))
   unfolding row_sum part
@@ -59,7 +64,7 @@ module _ (S : List ℕ) (d dl s sl cap : ℕ) (C : CanAdd S d dl s sl cap) where
   }
 
   pub roomy-done : (W : List ℕ) (n : ℕ) → sl ≤ cap - dl → (n ≡ length (row_sum S d dl s sl)) × (W ≡ put_row S d (dl + sl) (row_sum S d dl s sl))
-      → (Done n ≡ sum_in cap (row_sum S d dl s sl)) × (W ≡ added_to S d cap (row_sum S d dl s sl))
+      → (Some n ≡ sum_in cap (row_sum S d dl s sl)) × (W ≡ added_to S d cap (row_sum S d dl s sl))
   roomy-done W n h f =
       let room : dl + sl ≤ cap = omega (arith, C.row.room) in
       sum_done S W d cap (row_sum S d dl s sl) n f.0 (omega (arith, sum-most))
@@ -67,7 +72,7 @@ module _ (S : List ℕ) (d dl s sl cap : ℕ) (C : CanAdd S d dl s sl cap) where
 
   -- ---- only the sum has room
   module _ (n : ℕ) (e : n ≡ length (row_sum S d dl s sl)) where
-    pub tight-full : cap < n → (Full ≡ sum_in cap (row_sum S d dl s sl)) × (S ≡ added_to S d cap (row_sum S d dl s sl))
+    pub tight-full : cap < n → (None ≡ sum_in cap (row_sum S d dl s sl)) × (S ≡ added_to S d cap (row_sum S d dl s sl))
     tight-full h = sum-full S d cap (row_sum S d dl s sl) (omega arith)
 
     pub can-lay : n ≤ cap → CanLay S d dl s sl n
@@ -92,7 +97,7 @@ module _ (S : List ℕ) (d dl s sl cap : ℕ) (C : CanAdd S d dl s sl cap) where
       high m g = let z : d + (m - d) ≡ m = omega arith in rw z at (G.laid.old-top (m - d) (omega arith))
 
       pub tight-done : (R : List ℕ) → R ≡ put_at W (d + n) (zeros (d + cap - (d + n)))
-          → (Done n ≡ sum_in cap (row_sum S d dl s sl)) × (R ≡ added_to S d cap (row_sum S d dl s sl))
+          → (Some n ≡ sum_in cap (row_sum S d dl s sl)) × (R ≡ added_to S d cap (row_sum S d dl s sl))
       tight-done R r = sum_done S R d cap (row_sum S d dl s sl) n e (omega arith) whole
         where
           z : d + cap - (d + n) ≡ cap - length (row_sum S d dl s sl)

@@ -3,14 +3,12 @@ use mathlib.Core.Path.{◌≡◌, refl, sym, ap, ◌∙◌}
 use mathlib.Core.Logic.{◌⊎◌, inl, inr, ⊎_elim}
 use mathlib.Core.Bool.{not}
 use mathlib.Core.List.{List, ◌∷◌, ◌++◌}
-use Prim.Native.Nat.{ℕ, suc, ◌+◌, ◌-◌, ◌≤◌, ◌<◌}
+use Prim.Native.Nat.{ℕ, suc, min, ◌+◌, ◌-◌, ◌≤◌, ◌<◌}
 use native.Mathlib.Omega.{arith}
 use lib.Dec.{leb, eqb}
 use lib.ListN.{length, get_or, set, take, drop, length-append, length-set, length-drop, take-append-drop}
 use lib.Seq.{ext_get_or, length-take-le, take_all, get_or-take, get_or-drop, get_or-set_same, get_or-set_other}
-use borrow.Author.Tests.{le-leb, lt-leb}
 use mir.Val.{bool_byte}
-use Rattle.laws.specs.Plain.{pick}
 use Rattle.laws.specs.Rows.{xor_merge}
 use Rattle.laws.specs.Parts.{part, put_at, pad_to, zeros}
 use Rattle.laws.proofs.Numbers.{lt-or-le}
@@ -100,15 +98,15 @@ module _ (S : List ℕ) (d dl s sl : ℕ) (P : CanMerge S d dl s sl) where
         rest = H.rest ∙ at-eq (part S (d + sl) dl) (part S s sl) i j (omega (arith, d-long)) (omega (arith, s-long)) e;
       }
 
-    pub merging-more : i < dl → j < sl → (x y z : ℕ) → x ≡ get_or T (d + sl + i) 0 → y ≡ get_or T (s + j) 0 → z ≡ pick (leb x y) x y
+    pub merging-more : i < dl → j < sl → (x y z : ℕ) → x ≡ get_or T (d + sl + i) 0 → y ≡ get_or T (s + j) 0 → z ≡ min x y
         → Merging S (set T (d + n) z) d dl s sl (i + bool_byte (leb x y)) (j + bool_byte (leb y x)) (n + bool_byte (not (eqb x y)))
     merging-more p q x y z ex ey ez =
         by_tests x y (λ u v w. Merging S (set T (d + n) z) d dl s sl (i + v) (j + w) (n + u))
-        (λ h. let zx : z ≡ x = ez ∙ rw (le-leb x y (omega arith)) in
+        (λ h. let zx : z ≡ x = omega arith in
         rw (j0, zx) (keep p q x (i + 1) j (omega arith) (omega arith) (omega arith) (omega (arith, H.n-le))
         (at_lt (part S (d + sl) dl) (part S s sl) i j pi qj (omega (arith, xd, ys)) ∙ ap (λ (k : ℕ). k ∷ xor_merge (drop (i + 1) (part S (d + sl) dl)) (drop j (part S s sl))) (sym xd))))
         (λ h. rw n0 (skip p q z (sym xd ∙ h ∙ ys)))
-        (λ h. let zy : z ≡ y = ez ∙ rw (lt-leb x y h) in
+        (λ h. let zy : z ≡ y = omega arith in
         rw (i0, zy) (keep p q y i (j + 1) (omega arith) (omega arith) (omega arith) (omega (arith, H.n-le))
         (at-gt (part S (d + sl) dl) (part S s sl) i j pi qj (omega (arith, xd, ys)) ∙ ap (λ (k : ℕ). k ∷ xor_merge (drop i (part S (d + sl) dl)) (drop (j + 1) (part S s sl))) (sym ys))))
       where

@@ -1,6 +1,6 @@
 -- The sum of two rows, step by step at places of both: what comes next, and how many numbers it has. Assumes nothing.
 use mathlib.Core.Path.{◌≡◌, sym, ap, ◌∙◌}
-use mathlib.Core.Logic.{◌⊎◌, inl, inr, ⊎_elim}
+use mathlib.Core.Logic.{◌⊎◌, ⊎_elim}
 use mathlib.Core.Bool.{Bool, true, false, not}
 use mathlib.Core.List.{List, [], ◌∷◌, ◌++◌, append-nil}
 use Prim.Native.Nat.{ℕ, suc, ◌+◌, ◌-◌, ◌≤◌, ◌<◌}
@@ -13,11 +13,8 @@ use borrow.Author.Tests.{le-leb, lt-leb, eq-eqb, ne_eqb}
 use mir.Syntax.{w64}
 use mir.Val.{bool_byte, Fits}
 use Rattle.laws.specs.Rows.{xor_merge}
-use Rattle.laws.specs.Parts.{part}
 use Rattle.laws.proofs.Numbers.{by_order}
 use Rattle.laws.proofs.Merge.{merge-lt, merge-gt, merge-eq, merge-nil, nil-merge}
-use Rattle.laws.proofs.Parts.{part_length, part_at}
-use Rattle.sparse_vec.specs.Row.{row_sum}
 
 -- ---- what comes next
 module _ (a b : List ℕ) (i j : ℕ) where
@@ -102,39 +99,29 @@ step_count a b i j p q =
     (λ h. rw i0 (omega (arith, ap length (at-gt a b i j p q h))))
 
 -- ---- the numbers of the sum, counted: n of them, and the rest is the sum from i and j on
-pub record Counted (S : List ℕ) (d dl s sl i j n : ℕ) : Type 0 where
-  pub i-le : i ≤ dl
-  pub j-le : j ≤ sl
+pub record Counted (a b : List ℕ) (i j n : ℕ) : Type 0 where
+  pub i-le : i ≤ length a
+  pub j-le : j ≤ length b
   pub n-le : n ≤ i + j
-  pub is : n + length (xor_merge (drop i (part S d dl)) (drop j (part S s sl))) ≡ length (row_sum S d dl s sl)
+  pub is : n + length (xor_merge (drop i a) (drop j b)) ≡ length (xor_merge a b)
 
-pub counted_start : (S : List ℕ) (d dl s sl : ℕ) → Counted S d dl s sl 0 0 0
-unfolding row_sum
-counted_start S d dl s sl = record { i-le = omega arith; j-le = omega arith; n-le = omega arith; is = omega arith }
+pub counted_start : (a b : List ℕ) → Counted a b 0 0 0
+counted_start a b = record { i-le = omega arith; j-le = omega arith; n-le = omega arith; is = omega arith }
 
-module _ (S : List ℕ) (d dl s sl : ℕ) (fd : d + dl ≤ length S) (fs : s + sl ≤ length S) (i j n : ℕ) (C : Counted S d dl s sl i j n) where
-  d-long : length (part S d dl) ≡ dl
-  d-long = part_length S d dl fd
-
-  s-long : length (part S s sl) ≡ sl
-  s-long = part_length S s sl fs
-
-  pub counted-more : i < dl → j < sl
-      → Counted S d dl s sl (i + bool_byte (leb (get_or S (d + i) 0) (get_or S (s + j) 0))) (j + bool_byte (leb (get_or S (s + j) 0) (get_or S (d + i) 0)))
-      (n + bool_byte (not (eqb (get_or S (d + i) 0) (get_or S (s + j) 0))))
+module _ (a b : List ℕ) (i j n : ℕ) (C : Counted a b i j n) where
+  pub counted-more : i < length a → j < length b
+      → Counted a b (i + bool_byte (leb (get_or a i 0) (get_or b j 0))) (j + bool_byte (leb (get_or b j 0) (get_or a i 0)))
+      (n + bool_byte (not (eqb (get_or a i 0) (get_or b j 0))))
   counted-more p q =
-      rw (← part_at S d dl i p, ← part_at S s sl j q)
-      (let x : ℕ = get_or (part S d dl) i 0 in
-      let y : ℕ = get_or (part S s sl) j 0 in
+      let x : ℕ = get_or a i 0 in
+      let y : ℕ = get_or b j 0 in
       record {
         i-le = omega (arith, byte_le (leb x y));
         j-le = omega (arith, byte_le (leb y x));
         n-le = omega (arith, C.n-le, step-least x y);
-        is = omega (arith, C.is, step_count (part S d dl) (part S s sl) i j (omega (arith, d-long)) (omega (arith, s-long)));
-      })
+        is = omega (arith, C.is, step_count a b i j p q);
+      }
 
-  pub counted-done : (dl ≤ i) ⊎ (sl ≤ j) → n + (dl - i) + (sl - j) ≡ length (row_sum S d dl s sl)
+  pub counted-done : (length a ≤ i) ⊎ (length b ≤ j) → n + (length a - i) + (length b - j) ≡ length (xor_merge a b)
   counted-done o =
-      let e : length (xor_merge (drop i (part S d dl)) (drop j (part S s sl))) ≡ length (drop i (part S d dl) ++ drop j (part S s sl)) =
-      ap length (at_rest (part S d dl) (part S s sl) i j (⊎_elim (λ h. inl (omega (arith, d-long))) (λ h. inr (omega (arith, s-long))) o)) in
-      omega (arith, C.is, C.i-le, C.j-le, e, length-append (drop i (part S d dl)) (drop j (part S s sl)), length-drop i (part S d dl), length-drop j (part S s sl), d-long, s-long)
+      omega (arith, C.is, C.i-le, C.j-le, ap length (at_rest a b i j o), length-append (drop i a) (drop j b), length-drop i a, length-drop j b)

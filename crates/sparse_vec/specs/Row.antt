@@ -1,12 +1,8 @@
 -- One sparse row in a stretch of the lent slot entries: `len` strictly rising home columns from place `at` on, zeros up to `cap` places. Assumes nothing.
-use Rattle.std.specs.Prelude.{◌≡◌, Bool, true, ◌&&◌, ◌⊎◌, List, [], ◌∷◌, ℕ, zero, suc, ◌+◌, ◌≤◌, ◌<◌, leb, ltb, length, get_or}
+use Rattle.std.specs.Prelude.{◌≡◌, Bool, true, ◌&&◌, ◌⊎◌, List, [], ◌∷◌, ℕ, zero, suc, ◌+◌, ◌≤◌, ◌<◌, leb, ltb, length, get_or, Option, Some, None, Result, Ok, Err}
 use Rattle.laws.specs.Plain.{pick, keep}
 use Rattle.laws.specs.Rows.{member, Rising, xor_merge, put_in}
 use Rattle.laws.specs.Parts.{part, put_at, pad_to}
-use Rattle.sparse_vec.specs.declared.Found.{Found}
-use Rattle.sparse_vec.specs.declared.Found.TheVariants.{At, Insert}
-use Rattle.sparse_vec.specs.declared.Sum.{Sum}
-use Rattle.sparse_vec.specs.declared.Sum.TheVariants.{Done, Full}
 
 -- how many leading numbers are below x
 unfoldable pub rank : List ℕ → ℕ → ℕ
@@ -14,8 +10,8 @@ rank [] x = zero
 rank (y ∷ ys) x = pick (ltb y x) (suc (rank ys x)) zero
 
 -- where x stands, or the place where it would go
-unfoldable pub find_of : List ℕ → ℕ → Found
-find_of row x = pick (member x row) (At (rank row x)) (Insert (rank row x))
+unfoldable pub find_of : List ℕ → ℕ → Result ℕ ℕ
+find_of row x = pick (member x row) (Ok (rank row x)) (Err (rank row x))
 
 -- the stretch of cap places at `at` with the row r, and zeros after it
 unfoldable pub put_row : List ℕ → ℕ → ℕ → List ℕ → List ℕ
@@ -44,8 +40,8 @@ unfoldable pub row_sum : List ℕ → ℕ → ℕ → ℕ → ℕ → List ℕ
 row_sum slots d dl s sl = xor_merge (part slots d dl) (part slots s sl)
 
 -- the answer of an addition: how many numbers the sum has, or that it has more than cap
-unfoldable pub sum_in : ℕ → List ℕ → Sum
-sum_in cap r = pick (leb (length r) cap) (Done (length r)) Full
+unfoldable pub sum_in : ℕ → List ℕ → Option ℕ
+sum_in cap r = pick (leb (length r) cap) (Some (length r)) None
 
 -- the slots after an addition: the sum in its row, or all as it was
 unfoldable pub added_to : List ℕ → ℕ → ℕ → List ℕ → List ℕ

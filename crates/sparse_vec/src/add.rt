@@ -5,86 +5,86 @@ ghost use Rattle.laws.specs.Parts.{part};
 ghost use Rattle.sparse_vec.specs.Row.{put_row, HasRow, CanAdd, row_sum, sum_in, added_to};
 ghost use Rattle.sparse_vec.specs.Passes.{CanMerge};
 
+use crate::Row;
 use crate::change::{insert_at, remove_at};
 use crate::find::key_to_internal_index;
 use crate::passes::{merge_forward, merge_on, merge_up, sum_length};
 use crate::run::{bring, clear, move_right};
-use crate::{Found, Sum};
 
-// Answers whether the sum of the rows at d and s has room in cap places; where both rows together have, nothing is counted.
-pub fn sum_fits(slots: &[u16], d: usize, dl: usize, s: usize, sl: usize, cap: usize) -> bool
-    requires { CanAdd slots.now d dl s sl cap }
-    ensures { result ≡ leb (length (row_sum slots.now d dl s sl)) cap }
+// Answers whether the sum of the rows `to` and `from` has room in the places of `to`; where both rows together have, nothing is counted.
+pub fn sum_fits(slots: &[u16], to: Row, from: Row) -> bool
+    requires { CanAdd slots.now to.at to.len from.at from.len to.cap }
+    ensures { result ≡ leb (length (row_sum slots.now to.at to.len from.at from.len)) to.cap }
 {
-    if sl <= cap - dl {
+    if from.len <= to.cap - to.len {
         return true;
     }
-    sum_length(slots, d, dl, s, sl) <= cap
+    sum_length(to.numbers(slots), from.numbers(slots)) <= to.cap
 }
 
 // Adds a row of one number: x is found, and goes out or in.
-fn add_one(slots: &mut [u16], d: usize, dl: usize, cap: usize, x: u16) -> Sum
-    requires { HasRow slots.old d dl cap }
-    ensures { (result ≡ sum_in cap (xor_merge (part slots.old d dl) (x ∷ []))) × (slots.new ≡ added_to slots.old d cap (xor_merge (part slots.old d dl) (x ∷ []))) }
+fn add_one(slots: &mut [u16], to: Row, x: u16) -> Option<usize>
+    requires { HasRow slots.old to.at to.len to.cap }
+    ensures { (result ≡ sum_in to.cap (xor_merge (part slots.old to.at to.len) (x ∷ []))) × (slots.new ≡ added_to slots.old to.at to.cap (xor_merge (part slots.old to.at to.len) (x ∷ []))) }
 {
-    match key_to_internal_index(&slots[d..d + dl], x) {
-        Found::At(i) => {
-            remove_at(slots, d, dl, i);
-            Sum::Done(dl - 1)
+    match key_to_internal_index(to.numbers(slots), x) {
+        Ok(i) => {
+            remove_at(slots, to.at, to.len, i);
+            Some(to.len - 1)
         }
-        Found::Insert(i) => {
-            if dl == cap {
-                return Sum::Full;
+        Err(i) => {
+            if to.len == to.cap {
+                return None;
             }
-            insert_at(slots, d, dl, i, x);
-            Sum::Done(dl + 1)
+            insert_at(slots, to.at, to.len, i, x);
+            Some(to.len + 1)
         }
     }
 }
 
-// Adds row s to row d where both together have room: row d moves right by sl, and one pass merges to the left.
-fn add_roomy(slots: &mut [u16], d: usize, dl: usize, s: usize, sl: usize) -> usize
-    requires { CanMerge slots.old d dl s sl }
-    ensures { (result ≡ length (row_sum slots.old d dl s sl)) × (slots.new ≡ put_row slots.old d (dl + sl) (row_sum slots.old d dl s sl)) }
+// Adds row `from` to row `to` where both together have room: row `to` moves right by from.len, and one pass merges to the left.
+fn add_roomy(slots: &mut [u16], to: Row, from: Row) -> usize
+    requires { CanMerge slots.old to.at to.len from.at from.len }
+    ensures { (result ≡ length (row_sum slots.old to.at to.len from.at from.len)) × (slots.new ≡ put_row slots.old to.at (to.len + from.len) (row_sum slots.old to.at to.len from.at from.len)) }
 {
-    move_right(slots, d, dl, sl);
-    let m = merge_forward(slots, d, dl, s, sl);
+    move_right(slots, to.at, to.len, from.len);
+    let m = merge_forward(slots, to, from);
     // one of the two rests is empty
-    let more = dl - m.i;
-    bring(slots, d + m.n, d + sl + m.i, more);
-    let last = sl - m.j;
-    bring(slots, d + m.n + more, s + m.j, last);
+    let more = to.len - m.i;
+    bring(slots, to.at + m.n, to.at + from.len + m.i, more);
+    let last = from.len - m.j;
+    bring(slots, to.at + m.n + more, from.at + m.j, last);
     let n = m.n + more + last;
-    clear(slots, d + n, d + dl + sl);
+    clear(slots, to.at + n, to.at + to.len + from.len);
     n
 }
 
-// Adds row s to row d where both together have no room: the sum is counted first, then laid from the top and from the bottom.
-fn add_tight(slots: &mut [u16], d: usize, dl: usize, s: usize, sl: usize, cap: usize) -> Sum
-    requires { CanAdd slots.old d dl s sl cap }
-    ensures { (result ≡ sum_in cap (row_sum slots.old d dl s sl)) × (slots.new ≡ added_to slots.old d cap (row_sum slots.old d dl s sl)) }
+// Adds row `from` to row `to` where both together have no room: the sum is counted first, then laid from the top and from the bottom.
+fn add_tight(slots: &mut [u16], to: Row, from: Row) -> Option<usize>
+    requires { CanAdd slots.old to.at to.len from.at from.len to.cap }
+    ensures { (result ≡ sum_in to.cap (row_sum slots.old to.at to.len from.at from.len)) × (slots.new ≡ added_to slots.old to.at to.cap (row_sum slots.old to.at to.len from.at from.len)) }
 {
-    let n = sum_length(slots, d, dl, s, sl);
-    if cap < n {
-        return Sum::Full;
+    let n = sum_length(to.numbers(slots), from.numbers(slots));
+    if to.cap < n {
+        return None;
     }
-    merge_up(slots, d, dl, s, sl, n);
-    merge_on(slots, d, dl, s, sl, n);
-    clear(slots, d + n, d + cap);
-    Sum::Done(n)
+    merge_up(slots, to, from, n);
+    merge_on(slots, to, from, n);
+    clear(slots, to.at + n, to.at + to.cap);
+    Some(n)
 }
 
-// Adds row s to row d, if the sum has room in cap places; else nothing changes.
-pub fn add_assign(slots: &mut [u16], d: usize, dl: usize, s: usize, sl: usize, cap: usize) -> Sum
-    requires { CanAdd slots.old d dl s sl cap }
-    ensures { (result ≡ sum_in cap (row_sum slots.old d dl s sl)) × (slots.new ≡ added_to slots.old d cap (row_sum slots.old d dl s sl)) }
+// Adds row `from` to row `to`, if the sum has room in the places of `to`, and answers how many numbers it has; else nothing changes.
+pub fn add_assign(slots: &mut [u16], to: Row, from: Row) -> Option<usize>
+    requires { CanAdd slots.old to.at to.len from.at from.len to.cap }
+    ensures { (result ≡ sum_in to.cap (row_sum slots.old to.at to.len from.at from.len)) × (slots.new ≡ added_to slots.old to.at to.cap (row_sum slots.old to.at to.len from.at from.len)) }
 {
-    if sl == 1 {
-        let x = slots[s];
-        return add_one(slots, d, dl, cap, x);
+    if from.len == 1 {
+        let x = slots[from.at];
+        return add_one(slots, to, x);
     }
-    if sl <= cap - dl {
-        return Sum::Done(add_roomy(slots, d, dl, s, sl));
+    if from.len <= to.cap - to.len {
+        return Some(add_roomy(slots, to, from));
     }
-    add_tight(slots, d, dl, s, sl, cap)
+    add_tight(slots, to, from)
 }

@@ -5,7 +5,7 @@ ghost use Rattle.laws.specs.Parts.{part};
 ghost use Rattle.sparse_vec.specs.Row.{put_row, HasRow, CanInsert};
 ghost use Rattle.sparse_vec.specs.Passes.{insert_at, remove_at};
 
-use crate::Found;
+use crate::Row;
 use crate::find::key_to_internal_index;
 use crate::run::{bring, move_right};
 
@@ -29,29 +29,25 @@ pub fn remove_at(slots: &mut [u16], at: usize, len: usize, i: usize)
 }
 
 // Puts x into the row, and answers the row's length: a number that is there already stays.
-pub fn insert(slots: &mut [u16], at: usize, len: usize, cap: usize, x: u16) -> usize
-    requires { CanInsert slots.old at len cap x }
-    ensures { (result ≡ length (put_in x (part slots.old at len))) × (slots.new ≡ put_row slots.old at cap (put_in x (part slots.old at len))) }
+pub fn insert(slots: &mut [u16], row: Row, x: u16) -> usize
+    requires { CanInsert slots.old row.at row.len row.cap x }
+    ensures { (result ≡ length (put_in x (part slots.old row.at row.len))) × (slots.new ≡ put_row slots.old row.at row.cap (put_in x (part slots.old row.at row.len))) }
 {
-    match key_to_internal_index(&slots[at..at + len], x) {
-        Found::At(_) => len,
-        Found::Insert(i) => {
-            insert_at(slots, at, len, i, x);
-            len + 1
-        }
-    }
+    let Err(i) = key_to_internal_index(row.numbers(slots), x) else {
+        return row.len;
+    };
+    insert_at(slots, row.at, row.len, i, x);
+    row.len + 1
 }
 
 // Takes x out of the row, and answers the row's length: a number that is not there changes nothing.
-pub fn remove(slots: &mut [u16], at: usize, len: usize, cap: usize, x: u16) -> usize
-    requires { HasRow slots.old at len cap }
-    ensures { (result ≡ length (take_out x (part slots.old at len))) × (slots.new ≡ put_row slots.old at cap (take_out x (part slots.old at len))) }
+pub fn remove(slots: &mut [u16], row: Row, x: u16) -> usize
+    requires { HasRow slots.old row.at row.len row.cap }
+    ensures { (result ≡ length (take_out x (part slots.old row.at row.len))) × (slots.new ≡ put_row slots.old row.at row.cap (take_out x (part slots.old row.at row.len))) }
 {
-    match key_to_internal_index(&slots[at..at + len], x) {
-        Found::At(i) => {
-            remove_at(slots, at, len, i);
-            len - 1
-        }
-        Found::Insert(_) => len,
-    }
+    let Ok(i) = key_to_internal_index(row.numbers(slots), x) else {
+        return row.len;
+    };
+    remove_at(slots, row.at, row.len, i);
+    row.len - 1
 }

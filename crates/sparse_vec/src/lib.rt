@@ -5,24 +5,12 @@ mod change;
 mod find;
 mod mapped;
 mod passes;
+mod row;
 mod run;
 
 pub use add::{add_assign, sum_fits};
 pub use change::{insert, remove};
 pub use find::{get, key_to_internal_index};
 pub use mapped::{count_in, retain, sound, walk};
+pub use row::Row;
 pub use run::{clear, exchange};
-
-// Where a number stands in a row, or the place where it would go.
-#[derive(Clone, Copy)]
-pub enum Found {
-    At(usize),
-    Insert(usize),
-}
-
-// How many numbers a sum has, or that it has no room.
-#[derive(Clone, Copy)]
-pub enum Sum {
-    Done(usize),
-    Full,
-}

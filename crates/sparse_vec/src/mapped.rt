@@ -1,41 +1,24 @@
 // A row read through the map from home to logical columns.
-ghost use Rattle.std.specs.Prelude.{◌≡◌, length};
+ghost use Rattle.std.specs.Prelude.{◌≡◌, ◌<◌, length};
 ghost use Rattle.laws.specs.Parts.{part, over};
 ghost use Rattle.sparse_vec.specs.Row.{put_row, Mapped, walked, kept_below, row_test};
 ghost use Rattle.sparse_vec.specs.Calls.{CanWalk, CanRetain};
 
+use crate::Row;
 use crate::run::clear;
-
-// A home column as a place of the map.
-fn place(x: u16) -> usize
-    ensures { result ≡ x }
-{
-    x as usize
-}
-
-// A logical column as a caller's number.
-fn number(x: u16) -> u32
-    ensures { result ≡ x }
-{
-    x as u32
-}
 
 // Counts the row's numbers whose logical number is one of a to b-1.
 pub fn count_in(row: &[u16], logical: &[u16], a: u32, b: u32) -> usize
     requires { Mapped row.now logical.now }
     ensures { result ≡ length (walked logical.now a b row.now) }
 {
-    let mut n = 0;
-    let mut i = 0;
-    while i < row.len() {
-        let z = place(row[i]);
-        let c = number(logical[z]);
-        if a <= c && c < b {
-            n += 1;
-        }
-        i += 1;
-    }
-    n
+    let in_range = |z: &&u16| -> bool
+        requires { z.now.now < length logical.now }
+    {
+        let c = u32::from(logical[usize::from(**z)]);
+        a <= c && c < b
+    };
+    row.iter().filter(in_range).count()
 }
 
 // Lists the logical numbers of the row's numbers, those of a to b-1, by rising home number (01, ITER), and answers how many.
@@ -44,43 +27,30 @@ pub fn walk(row: &[u16], logical: &[u16], a: u32, b: u32, answers: &mut [u32]) -
     ensures { (result ≡ length (walked logical.now a b row.now)) × (answers.new ≡ over (walked logical.now a b row.now) answers.old) }
 {
     let mut n = 0;
-    let mut i = 0;
-    while i < row.len() {
-        let z = place(row[i]);
-        let c = number(logical[z]);
+    for &z in row {
+        let c = u32::from(logical[usize::from(z)]);
         if a <= c && c < b {
             answers[n] = c;
             n += 1;
         }
-        i += 1;
     }
     n
 }
 
 // Keeps those of the row's numbers whose logical number is below w, and answers how many.
-pub fn retain(
-    slots: &mut [u16],
-    at: usize,
-    len: usize,
-    cap: usize,
-    logical: &[u16],
-    w: u32,
-) -> usize
-    requires { CanRetain slots.old at len cap logical.now }
-    ensures { (result ≡ length (kept_below logical.now w (part slots.old at len))) × (slots.new ≡ put_row slots.old at cap (kept_below logical.now w (part slots.old at len))) }
+pub fn retain(slots: &mut [u16], row: Row, logical: &[u16], w: u32) -> usize
+    requires { CanRetain slots.old row.at row.len row.cap logical.now }
+    ensures { (result ≡ length (kept_below logical.now w (part slots.old row.at row.len))) × (slots.new ≡ put_row slots.old row.at row.cap (kept_below logical.now w (part slots.old row.at row.len))) }
 {
     let mut n = 0;
-    let mut i = 0;
-    while i < len {
-        let x = slots[at + i];
-        let z = place(x);
-        if number(logical[z]) < w {
-            slots[at + n] = x;
+    for i in 0..row.len {
+        let z = slots[row.at + i];
+        if u32::from(logical[usize::from(z)]) < w {
+            slots[row.at + n] = z;
             n += 1;
         }
-        i += 1;
     }
-    clear(slots, at + n, at + len);
+    clear(slots, row.at + n, row.at + row.len);
     n
 }
 
@@ -89,17 +59,12 @@ pub fn sound(row: &[u16], logical: &[u16], edge: u32) -> bool
     ensures { result ≡ row_test logical.now edge 0 row.now }
 {
     let mut lo = 0;
-    let mut i = 0;
-    while i < row.len() {
-        let z = place(row[i]);
-        if z < lo || logical.len() <= z {
-            return false;
-        }
-        if number(logical[z]) >= edge {
+    for &x in row {
+        let z = usize::from(x);
+        if z < lo || logical.len() <= z || edge <= u32::from(logical[z]) {
             return false;
         }
         lo = z + 1;
-        i += 1;
     }
     true
 }

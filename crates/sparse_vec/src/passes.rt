@@ -1,9 +1,10 @@
 // The passes of a row addition: one where both rows together have room, two where only the sum has.
-ghost use Rattle.std.specs.Prelude.{◌≡◌, ◌+◌, ◌≤◌, ◌<◌, leb, length, set};
+ghost use Rattle.std.specs.Prelude.{◌≡◌, ◌+◌, ◌<◌, leb, length, set};
 ghost use Rattle.laws.specs.Plain.{pick};
-ghost use Rattle.sparse_vec.specs.Row.{row_sum};
+ghost use Rattle.laws.specs.Rows.{xor_merge};
 ghost use Rattle.sparse_vec.specs.Passes.{CanMerge, Merged, CanLay, Halfway, Half, Settled};
 
+use crate::Row;
 use crate::run::bring;
 
 // How far a merge has come: i numbers of the first row and j of the second are read, n numbers of the sum are found.
@@ -14,49 +15,42 @@ pub struct Reached {
     pub n: usize,
 }
 
-// Counts the numbers of the sum of the rows at d and s, with no branch on the numbers.
-pub fn sum_length(slots: &[u16], d: usize, dl: usize, s: usize, sl: usize) -> usize
-    requires { (d + dl ≤ length slots.now) × (s + sl ≤ length slots.now) }
-    ensures { result ≡ length (row_sum slots.now d dl s sl) }
+// Counts the numbers of the sum of two rows, with no branch on the numbers.
+pub fn sum_length(a: &[u16], b: &[u16]) -> usize
+    ensures { result ≡ length (xor_merge a.now b.now) }
 {
     let mut i = 0;
     let mut j = 0;
     let mut n = 0;
-    while i < dl && j < sl {
-        let x = slots[d + i];
-        let y = slots[s + j];
+    // a `for` has one index: these two run at different speeds
+    while i < a.len() && j < b.len() {
+        let x = a[i];
+        let y = b[j];
         n += (x != y) as usize;
         i += (x <= y) as usize;
         j += (y <= x) as usize;
     }
-    n + (dl - i) + (sl - j)
+    n + (a.len() - i) + (b.len() - j)
 }
 
-// The smaller of two numbers.
-fn lesser(x: u16, y: u16) -> u16
-    ensures { result ≡ pick (leb x y) x y }
-{
-    if x <= y { x } else { y }
-}
-
-// Merges the dl numbers at d + sl and the sl numbers at s to d, until one of the two rows is used up. The smaller number is
-// written always, and kept by moving on: on random rows a branch on the numbers is what costs.
-pub fn merge_forward(slots: &mut [u16], d: usize, dl: usize, s: usize, sl: usize) -> Reached
-    requires { CanMerge slots.old d dl s sl }
-    ensures { Merged slots.old slots.new d dl s sl result.i result.j result.n }
+// Merges row `to`, moved right by from.len, and row `from` to where `to` stood, until one of the two rows is used up. The smaller
+// number is written always, and kept by moving on: on random rows a branch on the numbers is what costs.
+pub fn merge_forward(slots: &mut [u16], to: Row, from: Row) -> Reached
+    requires { CanMerge slots.old to.at to.len from.at from.len }
+    ensures { Merged slots.old slots.new to.at to.len from.at from.len result.i result.j result.n }
 {
     let mut i = 0;
     let mut j = 0;
-    let mut w = 0;
-    while i < dl && j < sl {
-        let x = slots[d + sl + i];
-        let y = slots[s + j];
-        slots[d + w] = lesser(x, y);
-        w += (x != y) as usize;
+    let mut n = 0;
+    while i < to.len && j < from.len {
+        let x = slots[to.at + from.len + i];
+        let y = slots[from.at + j];
+        slots[to.at + n] = x.min(y);
+        n += (x != y) as usize;
         i += (x <= y) as usize;
         j += (y <= x) as usize;
     }
-    Reached { i, j, n: w }
+    Reached { i, j, n }
 }
 
 // Writes y to place v of the stretch at d, if that is not before b.
@@ -69,85 +63,85 @@ fn lay(slots: &mut [u16], d: usize, b: usize, v: usize, y: u16)
     }
 }
 
-// From the top down: each number of the sum whose place lies right of the numbers of row d that are not yet read goes to its place.
-pub fn merge_up(slots: &mut [u16], d: usize, dl: usize, s: usize, sl: usize, n: usize)
-    requires { CanLay slots.old d dl s sl n }
-    ensures { Halfway slots.old slots.new d dl s sl n }
+// From the top down: each number of the sum whose place lies right of the numbers of row `to` that are not yet read goes to its place.
+pub fn merge_up(slots: &mut [u16], to: Row, from: Row, n: usize)
+    requires { CanLay slots.old to.at to.len from.at from.len n }
+    ensures { Halfway slots.old slots.new to.at to.len from.at from.len n }
 {
-    let mut i = dl;
-    let mut j = sl;
+    let mut i = to.len;
+    let mut j = from.len;
     let mut w = n;
-    let mut b = dl;
+    let mut b = to.len;
     while 0 < j {
         let g = j - 1;
-        let y = slots[s + g];
+        let y = slots[from.at + g];
         if 0 < i {
             let h = i - 1;
-            let x = slots[d + h];
+            let x = slots[to.at + h];
             if x == y {
                 b = i;
                 i = h;
                 j = g;
             } else if y < x {
                 w -= 1;
-                lay(slots, d, i, w, x);
+                lay(slots, to.at, i, w, x);
                 b = i;
                 i = h;
             } else {
                 w -= 1;
-                lay(slots, d, b, w, y);
+                lay(slots, to.at, b, w, y);
                 j = g;
             }
         } else {
             w -= 1;
-            lay(slots, d, b, w, y);
+            lay(slots, to.at, b, w, y);
             j = g;
         }
     }
 }
 
-// From the bottom up, after merge_up: the other numbers of the sum go to their places. Where the sum runs ahead of row d, its
+// From the bottom up, after merge_up: the other numbers of the sum go to their places. Where the sum runs ahead of row `to`, its
 // numbers stand there already, and what stands at place w tells which row the next number comes from.
-pub fn merge_on(slots: &mut [u16], d: usize, dl: usize, s: usize, sl: usize, n: usize)
-    requires { Half slots.old d dl s sl n }
-    ensures { Settled slots.old slots.new d dl s sl n }
+pub fn merge_on(slots: &mut [u16], to: Row, from: Row, n: usize)
+    requires { Half slots.old to.at to.len from.at from.len n }
+    ensures { Settled slots.old slots.new to.at to.len from.at from.len n }
 {
     let mut i = 0;
     let mut j = 0;
     let mut w = 0;
-    while j < sl {
-        let y = slots[s + j];
+    while j < from.len {
+        let y = slots[from.at + j];
         if i < w {
             if w == n {
                 i += 1;
                 j += 1;
             } else {
-                let z = slots[d + w];
+                let z = slots[to.at + w];
                 w += (z <= y) as usize;
                 i += (z != y) as usize;
                 j += (y <= z) as usize;
             }
-        } else if i < dl {
-            let x = slots[d + i];
+        } else if i < to.len {
+            let x = slots[to.at + i];
             if x < y {
-                slots[d + w] = x;
+                slots[to.at + w] = x;
                 w += 1;
                 i += 1;
             } else if x == y {
                 i += 1;
                 j += 1;
             } else {
-                slots[d + w] = y;
+                slots[to.at + w] = y;
                 w += 1;
                 j += 1;
             }
         } else {
-            slots[d + w] = y;
+            slots[to.at + w] = y;
             w += 1;
             j += 1;
         }
     }
     if w < i {
-        bring(slots, d + w, d + i, dl - i);
+        bring(slots, to.at + w, to.at + i, to.len - i);
     }
 }

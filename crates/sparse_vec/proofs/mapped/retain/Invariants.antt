@@ -1,10 +1,6 @@
 -- `sparse_vec::mapped::retain` meets its contract. Assumes nothing.
 use Rattle.sparse_vec.proofs.Keeping.{Keeping}
-use Prim.Native.Nat.{◌-◌}
 use Rattle.sparse_vec.proofs.mapped.retain.Given as goal
 
 abbrev pub invariant-loop-i : goal.invariant-loop-i
-invariant-loop-i l = Keeping l.initial.slots l.slots l.at l.len l.logical l.w l.i l.n
-
-abbrev pub decreases-loop-i : goal.decreases-loop-i
-decreases-loop-i l = l.len - l.i
+invariant-loop-i l = Keeping l.initial.slots l.slots l.row.at l.row.len l.logical l.w l.i l.n

@@ -1,11 +1,6 @@
 -- `sparse_vec::mapped::sound` meets its contract. Assumes nothing.
 use Rattle.sparse_vec.proofs.Keeping.{Tested}
-use lib.ListN.{length}
-use Prim.Native.Nat.{◌-◌}
 use Rattle.sparse_vec.proofs.mapped.sound.Given as goal
 
-abbrev pub invariant-loop-i : goal.invariant-loop-i
-invariant-loop-i l = Tested l.row l.logical l.edge l.lo l.i
-
-abbrev pub decreases-loop-i : goal.decreases-loop-i
-decreases-loop-i l = length l.row - l.i
+abbrev pub invariant-loop-x : goal.invariant-loop-x
+invariant-loop-x l = Tested l.row l.logical l.edge l.lo l.x-index

@@ -14,30 +14,30 @@ use Rattle.sparse_vec.proofs.passes.merge_forward.Goals as goal
 pub loop-i-init : goal.loop-i-init
 loop-i-init c = merging_start _ _ _ _ _ c.requires
 
-pub bounds-slots-s : goal.bounds-slots-s
-bounds-slots-s c = omega (arith, ltb-true)
+pub bounds-slots-from : goal.bounds-slots-from
+bounds-slots-from c = omega (arith, ltb-true)
 
-pub overflow_add-w : goal.overflow_add-w
-overflow_add-w c = let a = c.args in let x = get_or c.loop-i.slots (a.d + a.sl + c.loop-i.i) 0 in let y = get_or c.loop-i.slots (a.s + c.loop-i.j) 0 in
+pub overflow_add-n : goal.overflow_add-n
+overflow_add-n c = let a = c.args in let x = get_or c.loop-i.slots (a.to.at + a.from.len + c.loop-i.i) 0 in let y = get_or c.loop-i.slots (a.from.at + c.loop-i.j) 0 in
     step_fits _ (length c.loop-i.slots) (not (eqb x y)) (omega (arith, ltb-true)) (omega arith)
 
 pub overflow_add-i : goal.overflow_add-i
-overflow_add-i c = let a = c.args in let x = get_or c.loop-i.slots (a.d + a.sl + c.loop-i.i) 0 in let y = get_or c.loop-i.slots (a.s + c.loop-i.j) 0 in
+overflow_add-i c = let a = c.args in let x = get_or c.loop-i.slots (a.to.at + a.from.len + c.loop-i.i) 0 in let y = get_or c.loop-i.slots (a.from.at + c.loop-i.j) 0 in
     step_fits _ (length c.loop-i.slots) (leb x y) (omega (arith, ltb-true)) (omega arith)
 
 pub overflow_add-j : goal.overflow_add-j
-overflow_add-j c = let a = c.args in let x = get_or c.loop-i.slots (a.d + a.sl + c.loop-i.i) 0 in let y = get_or c.loop-i.slots (a.s + c.loop-i.j) 0 in
+overflow_add-j c = let a = c.args in let x = get_or c.loop-i.slots (a.to.at + a.from.len + c.loop-i.i) 0 in let y = get_or c.loop-i.slots (a.from.at + c.loop-i.j) 0 in
     step_fits _ (length c.loop-i.slots) (leb y x) (omega (arith, ltb-true)) (omega arith)
 
 pub loop-i-smaller : goal.loop-i-smaller
-loop-i-smaller c = let a = c.args in let x = get_or c.loop-i.slots (a.d + a.sl + c.loop-i.i) 0 in let y = get_or c.loop-i.slots (a.s + c.loop-i.j) 0 in
+loop-i-smaller c = let a = c.args in let x = get_or c.loop-i.slots (a.to.at + a.from.len + c.loop-i.i) 0 in let y = get_or c.loop-i.slots (a.from.at + c.loop-i.j) 0 in
     step_falls _ _ _ _ x y (omega arith) (omega (arith, ltb-true))
 
 pub loop-i-preserved : goal.loop-i-preserved
-loop-i-preserved c = merging-more _ _ _ _ _ c.requires _ _ _ _ c.loop-i.invariant (omega arith) (omega (arith, ltb-true)) _ _ _ refl refl c.lesser.ensures
+loop-i-preserved c = merging-more _ _ _ _ _ c.requires _ _ _ _ c.loop-i.invariant (omega arith) (omega (arith, ltb-true)) _ _ _ refl refl c.min.ensures
 
-pub returns-else-j-sl : goal.returns-else-j-sl
-returns-else-j-sl c = merging-done _ _ _ _ _ c.requires _ _ _ _ c.loop-i.invariant (inr (omega (arith, ltb-false)))
+pub returns-else-j-from : goal.returns-else-j-from
+returns-else-j-from c = merging-done _ _ _ _ _ c.requires _ _ _ _ c.loop-i.invariant (inr (omega (arith, ltb-false)))
 
 pub returns-after-loop-i : goal.returns-after-loop-i
 returns-after-loop-i c = merging-done _ _ _ _ _ c.requires _ _ _ _ c.loop-i.invariant (inl (omega arith))

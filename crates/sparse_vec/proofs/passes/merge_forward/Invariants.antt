@@ -4,7 +4,7 @@ use Prim.Native.Nat.{◌+◌, ◌-◌}
 use Rattle.sparse_vec.proofs.passes.merge_forward.Given as goal
 
 abbrev pub invariant-loop-i : goal.invariant-loop-i
-invariant-loop-i l = Merging l.initial.slots l.slots l.d l.dl l.s l.sl l.i l.j l.w
+invariant-loop-i l = Merging l.initial.slots l.slots l.to.at l.to.len l.from.at l.from.len l.i l.j l.n
 
 abbrev pub decreases-loop-i : goal.decreases-loop-i
-decreases-loop-i l = (l.dl - l.i) + (l.sl - l.j)
+decreases-loop-i l = (l.to.len - l.i) + (l.from.len - l.j)

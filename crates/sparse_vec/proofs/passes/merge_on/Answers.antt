@@ -16,23 +16,23 @@ pub loop-j-preserved-then-w-n : goal.loop-j-preserved-then-w-n
 loop-j-preserved-then-w-n c = on-rest _ _ _ _ _ _ _ _ _ _ c.loop-j.invariant (omega arith) (omega arith)
 
 pub overflow_add-w : goal.overflow_add-w
-overflow_add-w c = let a = c.args in let z = get_or c.loop-j.slots (a.d + c.loop-j.w) 0 in let y = get_or c.loop-j.slots (a.s + c.loop-j.j) 0 in
+overflow_add-w c = let a = c.args in let z = get_or c.loop-j.slots (a.to.at + c.loop-j.w) 0 in let y = get_or c.loop-j.slots (a.from.at + c.loop-j.j) 0 in
     step_fits _ a.n (leb z y) (omega arith) (omega arith)
 
 pub overflow_add-i-else-w-n : goal.overflow_add-i-else-w-n
-overflow_add-i-else-w-n c = let a = c.args in let z = get_or c.loop-j.slots (a.d + c.loop-j.w) 0 in let y = get_or c.loop-j.slots (a.s + c.loop-j.j) 0 in
+overflow_add-i-else-w-n c = let a = c.args in let z = get_or c.loop-j.slots (a.to.at + c.loop-j.w) 0 in let y = get_or c.loop-j.slots (a.from.at + c.loop-j.j) 0 in
     step_fits _ c.loop-j.w (not (eqb z y)) (omega arith) (omega arith)
 
 pub overflow_add-j-else-w-n : goal.overflow_add-j-else-w-n
-overflow_add-j-else-w-n c = let a = c.args in let z = get_or c.loop-j.slots (a.d + c.loop-j.w) 0 in let y = get_or c.loop-j.slots (a.s + c.loop-j.j) 0 in
-    step_fits _ a.sl (leb y z) (omega arith) (omega arith)
+overflow_add-j-else-w-n c = let a = c.args in let z = get_or c.loop-j.slots (a.to.at + c.loop-j.w) 0 in let y = get_or c.loop-j.slots (a.from.at + c.loop-j.j) 0 in
+    step_fits _ a.from.len (leb y z) (omega arith) (omega arith)
 
 pub loop-j-smaller-else-w-n : goal.loop-j-smaller-else-w-n
-loop-j-smaller-else-w-n c = let a = c.args in let z = get_or c.loop-j.slots (a.d + c.loop-j.w) 0 in let y = get_or c.loop-j.slots (a.s + c.loop-j.j) 0 in
+loop-j-smaller-else-w-n c = let a = c.args in let z = get_or c.loop-j.slots (a.to.at + c.loop-j.w) 0 in let y = get_or c.loop-j.slots (a.from.at + c.loop-j.j) 0 in
     on-falls _ _ _ _ _ _ _ _ _ _ c.loop-j.invariant (omega arith) (omega arith) (omega arith) z y refl refl
 
 pub loop-j-preserved-else-w-n : goal.loop-j-preserved-else-w-n
-loop-j-preserved-else-w-n c = let a = c.args in let z = get_or c.loop-j.slots (a.d + c.loop-j.w) 0 in let y = get_or c.loop-j.slots (a.s + c.loop-j.j) 0 in
+loop-j-preserved-else-w-n c = let a = c.args in let z = get_or c.loop-j.slots (a.to.at + c.loop-j.w) 0 in let y = get_or c.loop-j.slots (a.from.at + c.loop-j.j) 0 in
     on-pass _ _ _ _ _ _ _ _ _ _ c.loop-j.invariant (omega arith) (omega arith) (omega arith) z y refl refl
 
 pub loop-j-preserved-then-x-y : goal.loop-j-preserved-then-x-y
@@ -44,11 +44,11 @@ loop-j-preserved-then-x-y-2 c = on-eq _ _ _ _ _ _ _ _ _ _ c.loop-j.invariant (om
 pub loop-j-preserved-else-x-y-2 : goal.loop-j-preserved-else-x-y-2
 loop-j-preserved-else-x-y-2 c = on-gt _ _ _ _ _ _ _ _ _ _ c.loop-j.invariant (omega arith) (omega arith) (omega arith) (omega arith)
 
-pub bounds-slots-d-else-i-dl : goal.bounds-slots-d-else-i-dl
-bounds-slots-d-else-i-dl c = omega (arith, on_room _ _ _ _ _ _ _ _ _ _ c.loop-j.invariant (omega arith) (omega arith))
+pub bounds-slots-to-else-i-to : goal.bounds-slots-to-else-i-to
+bounds-slots-to-else-i-to c = omega (arith, on_room _ _ _ _ _ _ _ _ _ _ c.loop-j.invariant (omega arith) (omega arith))
 
-pub overflow_add-w-else-i-dl : goal.overflow_add-w-else-i-dl
-overflow_add-w-else-i-dl c = omega (arith, on_room _ _ _ _ _ _ _ _ _ _ c.loop-j.invariant (omega arith) (omega arith))
+pub overflow_add-w-else-i-to : goal.overflow_add-w-else-i-to
+overflow_add-w-else-i-to c = omega (arith, on_room _ _ _ _ _ _ _ _ _ _ c.loop-j.invariant (omega arith) (omega arith))
 
 pub loop-j-preserved : goal.loop-j-preserved
 loop-j-preserved c = on-right _ _ _ _ _ _ _ _ _ _ c.loop-j.invariant (omega arith) (omega arith)
