@@ -18,7 +18,8 @@ use Rattle.laws.proofs.Select.{keep-member, keep-length}
 use Rattle.laws.proofs.Sums.{num-le}
 use Rattle.laws.proofs.Parts.{zeros-length, part_length, part_at}
 use Rattle.sparse_vec.specs.Row.{put_row, kept_below, row_test}
-use Rattle.sparse_vec.specs.Calls.{CanRetain, CanClear}
+use Rattle.sparse_vec.specs.Calls.{CanRetain}
+use Rattle.lent.specs.Stretch.{Stretch}
 use Rattle.sparse_vec.proofs.Places.{put-join, row-wider}
 use Rattle.sparse_vec.proofs.Filled.{Filled, filled-start, filled-up, filled-done}
 use Rattle.sparse_vec.proofs.Steps.{rest_more, rest-head, rest-tail}
@@ -121,8 +122,8 @@ module _ (S : List ℕ) (at len cap : ℕ) (logical : List ℕ) (w : ℕ) (C : C
                   (sym (rest-head (kept_below logical w (part S at len)) n z (kept_below logical w (drop (i + 1) (part S at len))) goes_on));
             })
 
-    pub keeping-clear : CanClear T (at + n) (at + len)
-    keeping-clear = record { order = omega (arith, K.n-le, K.i-le); fit = omega (arith, K.filled.same, C.row.fits, C.row.room) }
+    pub keeping-clear : Stretch T (at + n) (at + len)
+    keeping-clear = record { in_order = omega (arith, K.n-le, K.i-le); in-it = omega (arith, K.filled.same, C.row.fits, C.row.room) }
 
     pub keeping-done : (W : List ℕ) → len ≤ i → W ≡ put_at T (at + n) (zeros (at + len - (at + n)))
         → (n ≡ length (kept_below logical w (part S at len))) × (W ≡ put_row S at cap (kept_below logical w (part S at len)))

@@ -1,6 +1,6 @@
 -- One number put into a row or taken out, at the place that the search tells; and the sum with a row of one number. Assumes nothing.
 use mathlib.Core.Path.{◌≡◌, refl, sym, ap, ◌∙◌}
-use mathlib.Core.Logic.{inl, ⊎_elim}
+use mathlib.Core.Logic.{⊎_elim}
 use mathlib.Core.Bool.{true, false, false≢true}
 use mathlib.Core.List.{List, [], ◌∷◌}
 use Prim.Native.Nat.{ℕ, suc, ◌+◌, ◌-◌, ◌≤◌, ◌<◌}
@@ -17,7 +17,8 @@ use Rattle.laws.proofs.Members.{none_below}
 use Rattle.laws.proofs.Merge.{merge-nil}
 use Rattle.laws.proofs.Parts.{get_or-past, part_length, part_at, put-length, put-below, put-in, put-above}
 use Rattle.sparse_vec.specs.Row.{rank, put_row}
-use Rattle.sparse_vec.specs.Passes.{insert_at, remove_at, CanBring}
+use Rattle.sparse_vec.specs.Passes.{insert_at, remove_at}
+use Rattle.lent.specs.Stretch.{CanMove}
 use Rattle.sparse_vec.proofs.Places.{is_row}
 
 -- ---- the list with x before place i, and the list without place i
@@ -146,8 +147,8 @@ remove-moved S T at len last i a f n e =
     other : (m : ℕ) → (m ≡ at + last → ⊥) → get_or (set T (at + last) 0) m 0 ≡ get_or T m 0
     other m h = get_or-set_other T (at + last) m 0 0 h
 
-pub can-shift : (S : List ℕ) (at len last i : ℕ) → i < len → at + len ≤ length S → len ≡ suc last → CanBring S (at + i) (at + i + 1) (last - i)
-can-shift S at len last i a f n = record { fit-to = omega arith; fit-from = omega arith; order = inl (omega arith) }
+pub can-shift : (S : List ℕ) (at len last i : ℕ) → i < len → at + len ≤ length S → len ≡ suc last → CanMove S (at + i + 1) (at + i) (last - i)
+can-shift S at len last i a f n = record { here = omega arith; there = omega arith }
 
 -- ---- the place by rank is the right one
 pub rank-in : (row : List ℕ) (x : ℕ) → member x row ≡ true → rank row x < length row

@@ -1,6 +1,6 @@
 -- The pass of an addition from the bottom up, after the one from the top. Assumes nothing.
 use mathlib.Core.Path.{◌≡◌, refl, sym, ap, ◌∙◌}
-use mathlib.Core.Logic.{inl, ⊎_elim}
+use mathlib.Core.Logic.{⊎_elim}
 use mathlib.Core.Bool.{not}
 use mathlib.Core.List.{List}
 use Prim.Native.Nat.{ℕ, zero, suc, ◌+◌, ◌-◌, ◌≤◌, ◌<◌}
@@ -14,7 +14,8 @@ use Rattle.laws.specs.Parts.{part, put_at}
 use Rattle.laws.proofs.Numbers.{lt-or-le, by_order}
 use Rattle.laws.proofs.Merge.{merge-nil}
 use Rattle.laws.proofs.Parts.{part_length, part_at, put-length, put-below, put-in, put-above}
-use Rattle.sparse_vec.specs.Passes.{CanBring, Halfway, Half, Settled}
+use Rattle.sparse_vec.specs.Passes.{Halfway, Half, Settled}
+use Rattle.lent.specs.Stretch.{CanMove}
 use Rattle.sparse_vec.proofs.Places.{is-put}
 use Rattle.sparse_vec.proofs.Finding.{rising-lt}
 use Rattle.sparse_vec.proofs.Steps.{at_lt, at-gt, at_right, by_tests}
@@ -279,11 +280,10 @@ module _ (O T : List ℕ) (d dl s sl n : ℕ) (G : Halfway O T d dl s sl n) wher
               ∙ sym (part_at O d dl p (omega (arith, left-long))) ∙ sym (rw (z, y) at (left_at (p - w)))
 
       -- or it is brought there
-      pub way-bring : w < i → CanBring U (d + w) (d + i) (dl - i)
+      pub way-bring : w < i → CanMove U (d + i) (d + w) (dl - i)
       way-bring a = record {
-        fit-to = omega (arith, H.same, G.laid.same, G.can.fit-d, H.cut.i-le, d-long);
-        fit-from = omega (arith, H.same, G.laid.same, G.can.fit-d, H.cut.i-le, d-long);
-        order = inl (omega arith);
+        there = omega (arith, H.same, G.laid.same, G.can.fit-d, H.cut.i-le, d-long);
+        here = omega (arith, H.same, G.laid.same, G.can.fit-d, H.cut.i-le, d-long);
       }
 
       pub way-brought : (W : List ℕ) → w < i → W ≡ put_at U (d + w) (part U (d + i) (dl - i)) → W ≡ put_at T d (xor_merge (part O d dl) (part O s sl))
@@ -301,10 +301,10 @@ module _ (O T : List ℕ) (d dl s sl n : ℕ) (G : Halfway O T d dl s sl n) wher
           (λ m h. w_at m ∙ put-above U (d + w) (part U (d + i) (dl - i)) fit m (omega (arith, long, left-long, n-long, H.cut.w_le)) ∙ above m h)
         where
           long : length (part U (d + i) (dl - i)) ≡ dl - i
-          long = part_length U (d + i) (dl - i) (way-bring a).fit-from
+          long = part_length U (d + i) (dl - i) (way-bring a).here
 
           fit : d + w + length (part U (d + i) (dl - i)) ≤ length U
-          fit = omega (arith, long, (way-bring a).fit-to)
+          fit = omega (arith, long, (way-bring a).there)
 
           w_at : (m : ℕ) → get_or W m 0 ≡ get_or (put_at U (d + w) (part U (d + i) (dl - i))) m 0
           w_at m = ap (λ (l : List ℕ). get_or l m 0) e
@@ -383,7 +383,7 @@ module _ (T : List ℕ) (d dl s sl n : ℕ) where
     pub on-end : i ≤ w → sl ≤ j → Settled T U d dl s sl n
     on-end a q = record { sum = λ o G. way_end o T d dl s sl n G U i j w (N.all o G) q a }
 
-    pub on-bring : w < i → sl ≤ j → CanBring U (d + w) (d + i) (dl - i)
+    pub on-bring : w < i → sl ≤ j → CanMove U (d + i) (d + w) (dl - i)
     on-bring a q = way-bring N.some.orig T d dl s sl n N.some.half U i j w (N.all N.some.orig N.some.half) q a
 
     pub on-brought : (W : List ℕ) → w < i → sl ≤ j → W ≡ put_at U (d + w) (part U (d + i) (dl - i)) → Settled T W d dl s sl n

@@ -1,5 +1,5 @@
 -- What the public calls beside insert and add ask of their numbers. Assumes nothing.
-use Rattle.std.specs.Prelude.{◌⊎◌, List, ℕ, ◌+◌, ◌≤◌, length}
+use Rattle.std.specs.Prelude.{List, ℕ, ◌≤◌, length}
 use Rattle.laws.specs.Parts.{part}
 use Rattle.sparse_vec.specs.Row.{HasRow, Mapped, walked}
 
@@ -12,14 +12,3 @@ pub record CanWalk (row logical : List ℕ) (a b : ℕ) (answers : List ℕ) : T
 pub record CanRetain (slots : List ℕ) (at len cap : ℕ) (logical : List ℕ) : Type 0 where
   pub row : HasRow slots at len cap
   pub mapped : Mapped (part slots at len) logical
-
--- two stretches of n places that lie apart
-pub record CanExchange (slots : List ℕ) (a b n : ℕ) : Type 0 where
-  pub fit-a : a + n ≤ length slots
-  pub fit-b : b + n ≤ length slots
-  pub apart : (a + n ≤ b) ⊎ (b + n ≤ a)
-
--- a stretch given by its two ends
-pub record CanClear (slots : List ℕ) (from to : ℕ) : Type 0 where
-  pub order : from ≤ to
-  pub fit : to ≤ length slots

@@ -9,7 +9,7 @@ use crate::Row;
 use crate::change::{insert_at, remove_at};
 use crate::find::key_to_internal_index;
 use crate::passes::{merge_forward, merge_on, merge_up, sum_length};
-use crate::run::{bring, clear, move_right};
+use lent::{clear, move_stretch};
 
 // Answers whether the sum of the rows `to` and `from` has room in the places of `to`; where both rows together have, nothing is counted.
 pub fn sum_fits(slots: &[u16], to: Row, from: Row) -> bool
@@ -47,13 +47,13 @@ fn add_roomy(slots: &mut [u16], to: Row, from: Row) -> usize
     requires { CanMerge slots.old to.at to.len from.at from.len }
     ensures { (result ≡ length (row_sum slots.old to.at to.len from.at from.len)) × (slots.new ≡ put_row slots.old to.at (to.len + from.len) (row_sum slots.old to.at to.len from.at from.len)) }
 {
-    move_right(slots, to.at, to.len, from.len);
+    move_stretch(slots, to.at, to.at + from.len, to.len);
     let m = merge_forward(slots, to, from);
     // one of the two rests is empty
     let more = to.len - m.i;
-    bring(slots, to.at + m.n, to.at + from.len + m.i, more);
+    move_stretch(slots, to.at + from.len + m.i, to.at + m.n, more);
     let last = from.len - m.j;
-    bring(slots, to.at + m.n + more, from.at + m.j, last);
+    move_stretch(slots, from.at + m.j, to.at + m.n + more, last);
     let n = m.n + more + last;
     clear(slots, to.at + n, to.at + to.len + from.len);
     n

@@ -7,14 +7,14 @@ ghost use Rattle.sparse_vec.specs.Passes.{insert_at, remove_at};
 
 use crate::Row;
 use crate::find::key_to_internal_index;
-use crate::run::{bring, move_right};
+use lent::move_stretch;
 
 // Puts x before number i of the len numbers at `at`: those from i on move one place to the right.
 pub fn insert_at(slots: &mut [u16], at: usize, len: usize, i: usize, x: u16)
     requires { (i ≤ len) × (at + len < length slots.old) }
     ensures { slots.new ≡ put_row slots.old at (len + 1) (insert_at i x (part slots.old at len)) }
 {
-    move_right(slots, at + i, len - i, 1);
+    move_stretch(slots, at + i, at + i + 1, len - i);
     slots[at + i] = x;
 }
 
@@ -24,7 +24,7 @@ pub fn remove_at(slots: &mut [u16], at: usize, len: usize, i: usize)
     ensures { slots.new ≡ put_row slots.old at len (remove_at i (part slots.old at len)) }
 {
     let last = len - 1;
-    bring(slots, at + i, at + i + 1, last - i);
+    move_stretch(slots, at + i + 1, at + i, last - i);
     slots[at + last] = 0;
 }
 

@@ -6,11 +6,9 @@ mod find;
 mod mapped;
 mod passes;
 mod row;
-mod run;
 
 pub use add::{add_assign, sum_fits};
 pub use change::{insert, remove};
-pub use find::{get, key_to_internal_index};
+pub use find::{Narrow, get, key_to_internal_index};
 pub use mapped::{count_in, retain, sound, walk};
 pub use row::Row;
-pub use run::{clear, exchange};

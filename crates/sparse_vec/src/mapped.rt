@@ -5,7 +5,7 @@ ghost use Rattle.sparse_vec.specs.Row.{put_row, Mapped, walked, kept_below, row_
 ghost use Rattle.sparse_vec.specs.Calls.{CanWalk, CanRetain};
 
 use crate::Row;
-use crate::run::clear;
+use lent::clear;
 
 // Counts the row's numbers whose logical number is one of a to b-1.
 pub fn count_in(row: &[u16], logical: &[u16], a: u32, b: u32) -> usize

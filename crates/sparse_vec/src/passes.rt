@@ -5,7 +5,7 @@ ghost use Rattle.laws.specs.Rows.{xor_merge};
 ghost use Rattle.sparse_vec.specs.Passes.{CanMerge, Merged, CanLay, Halfway, Half, Settled};
 
 use crate::Row;
-use crate::run::bring;
+use lent::move_stretch;
 
 // How far a merge has come: i numbers of the first row and j of the second are read, n numbers of the sum are found.
 #[derive(Clone, Copy)]
@@ -142,6 +142,6 @@ pub fn merge_on(slots: &mut [u16], to: Row, from: Row, n: usize)
         }
     }
     if w < i {
-        bring(slots, to.at + w, to.at + i, to.len - i);
+        move_stretch(slots, to.at + i, to.at + w, to.len - i);
     }
 }

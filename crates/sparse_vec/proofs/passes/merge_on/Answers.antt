@@ -53,11 +53,11 @@ overflow_add-w-else-i-to c = omega (arith, on_room _ _ _ _ _ _ _ _ _ _ c.loop-j.
 pub loop-j-preserved : goal.loop-j-preserved
 loop-j-preserved c = on-right _ _ _ _ _ _ _ _ _ _ c.loop-j.invariant (omega arith) (omega arith)
 
-pub bring-requires : goal.bring-requires
-bring-requires c = on-bring _ _ _ _ _ _ _ _ _ _ c.loop-j.invariant (omega arith) (omega arith)
+pub move_stretch-requires : goal.move_stretch-requires
+move_stretch-requires c = on-bring _ _ _ _ _ _ _ _ _ _ c.loop-j.invariant (omega arith) (omega arith)
 
 pub returns-then-w-i : goal.returns-then-w-i
-returns-then-w-i c = on-brought _ _ _ _ _ _ _ _ _ _ c.loop-j.invariant _ (omega arith) (omega arith) c.bring.ensures
+returns-then-w-i c = on-brought _ _ _ _ _ _ _ _ _ _ c.loop-j.invariant _ (omega arith) (omega arith) c.move_stretch.ensures
 
 pub returns-else-w-i : goal.returns-else-w-i
 returns-else-w-i c = on-end _ _ _ _ _ _ _ _ _ _ c.loop-j.invariant (omega arith) (omega arith)
