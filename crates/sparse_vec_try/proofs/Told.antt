@@ -57,6 +57,7 @@ zero_more slots from k z e = record { zero = λ j h l. ⊎_elim (λ o. z.zero j 
 pub zero-all : (slots : List ℕ) (from k to : ℕ) → ZeroBetween slots from k → to ≤ k → ZeroBetween slots from to
 zero-all slots from k to z h = record { zero = λ j a l. z.zero j a (omega arith) }
 
-pub can-add : (slots map : List ℕ) (d dl s sl cap : ℕ) → CanRetain slots d dl cap map → CanRetain slots s sl cap map → (d + cap ≤ s) ⊎ (s + cap ≤ d)
-    → CanAdd slots d dl s sl cap
-can-add slots map d dl s sl cap C B a = record { row = C.row; source = B.row; apart = a }
+-- two rows that lie apart, in stretches of one size
+pub can-add : (slots map : List ℕ) (d dl s sl cap room : ℕ) → CanRetain slots d dl cap map → CanRetain slots s sl room map → room ≡ cap
+    → (d + cap ≤ s) ⊎ (s + room ≤ d) → CanAdd slots d dl s sl cap
+can-add slots map d dl s sl cap room C B e a = record { row = C.row; source = rw e at B.row; apart = rw e at a }

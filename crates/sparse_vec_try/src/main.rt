@@ -4,16 +4,7 @@ ghost use Rattle.std.specs.Prelude.{◌≡◌, true};
 ghost use Rattle.sparse_vec.specs.Calls.{CanRetain};
 ghost use Rattle.sparse_vec_try.specs.Tests.{IsRow, ZeroBetween};
 
-use sparse_vec::{Found, Sum};
-
-// A number as the printing takes it.
-fn wide(x: u16) -> u64 {
-    x as u64
-}
-
-fn wide32(x: u32) -> u64 {
-    x as u64
-}
+use sparse_vec::Row;
 
 // Prints a space and a number.
 fn print(x: u64) {
@@ -21,24 +12,11 @@ fn print(x: u64) {
     io::print_decimal(1, x);
 }
 
-// Prints the numbers of a run, and ends the line.
-fn show(slots: &[u16]) {
+// Prints the numbers of a list, and ends the line.
+fn show<T: Copy + Into<u64>>(numbers: &[T]) {
     io::write_all(1, b" :");
-    let mut i = 0;
-    while i < slots.len() {
-        print(wide(slots[i]));
-        i += 1;
-    }
-    io::write_all(1, b"\n");
-}
-
-// Prints the answers, and ends the line.
-fn show_answers(answers: &[u32]) {
-    io::write_all(1, b" :");
-    let mut i = 0;
-    while i < answers.len() {
-        print(wide32(answers[i]));
-        i += 1;
+    for x in numbers {
+        print((*x).into());
     }
     io::write_all(1, b"\n");
 }
@@ -57,41 +35,46 @@ fn zero_between(slots: &[u16], from: usize, to: usize) -> bool
     if slots.len() < to || to < from {
         return false;
     }
-    let mut k = from;
-    while k < to {
+    for k in from..to {
         if slots[k] != 0 {
             return false;
         }
-        k += 1;
     }
     true
 }
 
 // Answers whether a row stands in the stretch, which the calls on a stretch ask for.
-fn has_row(slots: &[u16], map: &[u16], at: usize, len: usize, cap: usize) -> bool
-    ensures { result ≡ true → CanRetain slots.now at len cap map.now }
+fn has_row(slots: &[u16], map: &[u16], row: Row) -> bool
+    ensures { result ≡ true → CanRetain slots.now row.at row.len row.cap map.now }
 {
-    if slots.len() < cap || cap < len {
+    if slots.len() < row.cap || row.cap < row.len {
         return false;
     }
-    if slots.len() - cap < at {
+    if slots.len() - row.cap < row.at {
         return false;
     }
-    if !is_row(&slots[at..at + len], map) {
+    if !is_row(row.numbers(slots), map) {
         return false;
     }
-    zero_between(slots, at + len, at + cap)
+    zero_between(slots, row.at + row.len, row.at + row.cap)
+}
+
+// The row of len numbers from place `at` on, in a stretch of cap places.
+fn row_at(at: usize, len: usize, cap: usize) -> Row
+    ensures { result ≡ record { at = at; len = len; cap = cap } }
+{
+    Row { at, len, cap }
 }
 
 // Prints where x stands or would go, and whether it is there.
 fn find(row: &[u16], map: &[u16], x: u16) {
     if is_row(row, map) {
         match sparse_vec::key_to_internal_index(row, x) {
-            Found::At(i) => {
+            Ok(i) => {
                 io::write_all(1, b"at");
                 print(i as u64);
             }
-            Found::Insert(i) => {
+            Err(i) => {
                 io::write_all(1, b"insert");
                 print(i as u64);
             }
@@ -104,45 +87,46 @@ fn find(row: &[u16], map: &[u16], x: u16) {
     }
 }
 
-fn insert(slots: &mut [u16], map: &[u16], at: usize, len: usize, cap: usize, x: u16) {
-    if len == cap {
+fn insert(slots: &mut [u16], map: &[u16], row: Row, x: u16) {
+    if row.len == row.cap {
         return;
     }
-    if has_row(slots, map, at, len, cap) {
-        let n = sparse_vec::insert(slots, at, len, cap, x);
+    if has_row(slots, map, row) {
+        let n = sparse_vec::insert(slots, row, x);
         io::write_all(1, b"insert");
         print(n as u64);
         show(slots);
     }
 }
 
-fn remove(slots: &mut [u16], map: &[u16], at: usize, len: usize, cap: usize, x: u16) {
-    if has_row(slots, map, at, len, cap) {
-        let n = sparse_vec::remove(slots, at, len, cap, x);
+fn remove(slots: &mut [u16], map: &[u16], row: Row, x: u16) {
+    if has_row(slots, map, row) {
+        let n = sparse_vec::remove(slots, row, x);
         io::write_all(1, b"remove");
         print(n as u64);
         show(slots);
     }
 }
 
-fn add(slots: &mut [u16], map: &[u16], d: usize, dl: usize, s: usize, sl: usize, cap: usize) {
-    if !has_row(slots, map, d, dl, cap) || !has_row(slots, map, s, sl, cap) {
+// Adds row `from` to row `to`, where they lie apart in stretches of one size.
+fn add(slots: &mut [u16], map: &[u16], to: Row, from: Row) {
+    if !has_row(slots, map, to) || !has_row(slots, map, from) || from.cap != to.cap {
         return;
     }
-    if s < d + cap && d < s + cap {
+    if from.at < to.at + to.cap && to.at < from.at + from.cap {
         return;
     }
-    if sparse_vec::sum_fits(slots, d, dl, s, sl, cap) {
+    if sparse_vec::sum_fits(slots, to, from) {
         io::write_all(1, b"fits");
     } else {
         io::write_all(1, b"not");
     }
-    match sparse_vec::add_assign(slots, d, dl, s, sl, cap) {
-        Sum::Done(n) => {
+    match sparse_vec::add_assign(slots, to, from) {
+        Some(n) => {
             io::write_all(1, b" done");
             print(n as u64);
         }
-        Sum::Full => {
+        None => {
             io::write_all(1, b" full");
         }
     }
@@ -155,13 +139,13 @@ fn walk(row: &[u16], map: &[u16], a: u32, b: u32, answers: &mut [u32]) {
         io::write_all(1, b"walk");
         print(sparse_vec::count_in(row, map, a, b) as u64);
         print(sparse_vec::walk(row, map, a, b, answers) as u64);
-        show_answers(answers);
+        show(answers);
     }
 }
 
-fn retain(slots: &mut [u16], map: &[u16], at: usize, len: usize, cap: usize, w: u32) {
-    if has_row(slots, map, at, len, cap) {
-        let n = sparse_vec::retain(slots, at, len, cap, map, w);
+fn retain(slots: &mut [u16], map: &[u16], row: Row, w: u32) {
+    if has_row(slots, map, row) {
+        let n = sparse_vec::retain(slots, row, map, w);
         io::write_all(1, b"retain");
         print(n as u64);
         show(slots);
@@ -173,7 +157,7 @@ fn exchange(slots: &mut [u16], a: usize, b: usize, n: usize) {
         return;
     }
     if n <= b - a && n <= slots.len() - b {
-        sparse_vec::exchange(slots, a, b, n);
+        lent::exchange(slots, a, b, n);
         io::write_all(1, b"exchange");
         show(slots);
     }
@@ -181,7 +165,7 @@ fn exchange(slots: &mut [u16], a: usize, b: usize, n: usize) {
 
 fn clear(slots: &mut [u16], from: usize, to: usize) {
     if from <= to && to <= slots.len() {
-        sparse_vec::clear(slots, from, to);
+        lent::clear(slots, from, to);
         io::write_all(1, b"clear");
         show(slots);
     }
@@ -199,30 +183,30 @@ fn try_find(map: &[u16]) {
 
 fn try_change(map: &[u16]) {
     let mut slots = [9u16, 0, 0, 0, 9];
-    insert(&mut slots, map, 1, 0, 3, 5);
-    insert(&mut slots, map, 1, 1, 3, 5);
-    insert(&mut slots, map, 1, 1, 3, 2);
-    insert(&mut slots, map, 1, 2, 3, 3);
-    remove(&mut slots, map, 1, 3, 3, 4);
-    remove(&mut slots, map, 1, 3, 3, 2);
-    remove(&mut slots, map, 1, 2, 3, 5);
+    insert(&mut slots, map, row_at(1, 0, 3), 5);
+    insert(&mut slots, map, row_at(1, 1, 3), 5);
+    insert(&mut slots, map, row_at(1, 1, 3), 2);
+    insert(&mut slots, map, row_at(1, 2, 3), 3);
+    remove(&mut slots, map, row_at(1, 3, 3), 4);
+    remove(&mut slots, map, row_at(1, 3, 3), 2);
+    remove(&mut slots, map, row_at(1, 2, 3), 5);
 }
 
 fn try_add(map: &[u16]) {
     let mut four = [1u16, 2, 0, 0, 1, 4, 0, 0];
-    add(&mut four, map, 0, 2, 4, 2, 4);
+    add(&mut four, map, row_at(0, 2, 4), row_at(4, 2, 4));
     let mut three = [3u16, 0, 3, 0];
-    add(&mut three, map, 0, 1, 2, 1, 2);
+    add(&mut three, map, row_at(0, 1, 2), row_at(2, 1, 2));
     let mut full = [1u16, 2, 3, 0];
-    add(&mut full, map, 0, 2, 2, 1, 2);
+    add(&mut full, map, row_at(0, 2, 2), row_at(2, 1, 2));
     let mut two = [1u16, 2, 2, 3];
-    add(&mut two, map, 0, 2, 2, 2, 2);
+    add(&mut two, map, row_at(0, 2, 2), row_at(2, 2, 2));
     let mut before = [1u16, 4, 0, 0, 1, 2, 0, 0];
-    add(&mut before, map, 4, 2, 0, 2, 4);
+    add(&mut before, map, row_at(4, 2, 4), row_at(0, 2, 4));
     let mut tight = [3u16, 5, 7, 0, 1, 3, 7, 8];
-    add(&mut tight, map, 0, 3, 4, 4, 4);
+    add(&mut tight, map, row_at(0, 3, 4), row_at(4, 4, 4));
     let mut none = [2u16, 0, 0, 0, 0, 0];
-    add(&mut none, map, 0, 1, 3, 0, 3);
+    add(&mut none, map, row_at(0, 1, 3), row_at(3, 0, 3));
 }
 
 fn try_mapped(map: &[u16]) {
@@ -233,7 +217,7 @@ fn try_mapped(map: &[u16]) {
     walk(&row, map, 4, 8, &mut others);
     walk(&row, map, 8, 4, &mut others);
     let mut slots = [1u16, 3, 6, 0];
-    retain(&mut slots, map, 0, 3, 4, 8);
+    retain(&mut slots, map, row_at(0, 3, 4), 8);
     exchange(&mut slots, 0, 2, 2);
     clear(&mut slots, 1, 3);
 }

@@ -5,4 +5,4 @@ use native.Mathlib.Omega.{arith}
 use Rattle.sparse_vec_try.proofs.exchange.Goals as goal
 
 pub exchange-requires : goal.exchange-requires
-exchange-requires c = record { fit-a = omega (arith, leb-true, ltb-false); fit-b = omega (arith, leb-true, ltb-false); apart = inl (omega (arith, leb-true, ltb-false)) }
+exchange-requires c = record { first = omega (arith, leb-true, ltb-false); second = omega (arith, leb-true, ltb-false); apart = inl (omega (arith, leb-true, ltb-false)) }
