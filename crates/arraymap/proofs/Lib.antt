@@ -1,6 +1,5 @@
 pub mod Stretches
 pub mod Placing
-pub mod Seeking
 pub mod Tests
 pub mod Columns
 pub mod Whole

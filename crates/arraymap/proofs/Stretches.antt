@@ -1,9 +1,15 @@
 -- A column's list and a row as the stretches that the code lends. Assumes nothing.
-use mathlib.Core.Path.{◌≡◌, ap, ◌∙◌}
+use mathlib.Core.Path.{◌≡◌, sym, ap, ◌∙◌}
+use mathlib.Core.Bool.{false}
+use Rattle.laws.specs.Rows.{member}
+use Rattle.laws.proofs.Bools.{by-test}
+use Rattle.laws.proofs.Members.{member-place}
 use mathlib.Core.List.{List}
 use Prim.Native.Nat.{ℕ, suc, ◌+◌, ◌-◌, ◌*◌, ◌≤◌, ◌<◌}
 use native.Mathlib.Numerals.{add-one}
 use native.Mathlib.Omega.{arith}
+use mir.Val.{Fits}
+use mir.Syntax.{w16}
 use lib.ListN.{length, get_or, take, drop}
 use Rattle.laws.specs.Parts.{part, row_of}
 use Rattle.laws.proofs.Parts.{part-is, part_length, row-end}
@@ -37,3 +43,9 @@ module _ (slots counts : List ℕ) (h k m : ℕ) (R : Rows slots counts h k m) (
 pub row_is : (slots counts : List ℕ) (k y len : ℕ) → len ≡ get_or counts y 0 → take ((y * k + len) - y * k) (drop (y * k) slots) ≡ row_of slots counts k y
 unfolding row_of
 row_is slots counts k y len e = part-is slots (y * k) len ∙ ap (part slots (y * k)) e
+
+-- a row of numbers of 16 bits holds no wider one
+pub too_wide : (row l : List ℕ) (z : ℕ) → row ≡ l → ((i : ℕ) → Fits w16 (get_or row i 0)) → (z < 65536 → ⊥) → false ≡ member z l
+too_wide row l z e f g = rw (sym e) (by-test (member z row)
+    (λ t. member-place row z t (λ i h q. absurd (g (omega (arith, f i)))))
+    (λ n. sym n))

@@ -1,50 +1,67 @@
 -- The loops of the check: what each turn finds of its test. Assumes nothing.
-use mathlib.Core.Path.{◌≡◌, refl, sym, ap, ◌∙◌}
+use mathlib.Core.Path.{◌≡◌, refl, sym, ap, ap₂, ◌∙◌}
 use mathlib.Core.Bool.{Bool, true, false, not, ◌&&◌, ◌||◌}
 use mathlib.Core.List.{List, [], ◌∷◌}
 use Prim.Native.Nat.{ℕ, zero, suc, ◌+◌, ◌-◌, ◌≤◌, ◌<◌}
 use native.Mathlib.Numerals.{add-one}
 use native.Mathlib.Omega.{arith}
+use native.Mathlib.Nat.{zero-add}
+use Rattle.std.specs.Prelude.{Some, MatchBool}
+use Rattle.std.specs.List.{list_all, range_with_len, IsAllAdjacentAnswer}
+use Rattle.std.specs.List.Sorted.{IsNonDecreasing}
+use Rattle.std.specs.Ordering.{is_some_and, is_le, nat_cmp}
+use Rattle.std.proofs.lemmas.List.Folds.{list_all_more}
+use Rattle.std.proofs.lemmas.List.FromFn.{length-range_with_len, get_or-range_with_len}
+use Rattle.std.proofs.lemmas.List.Sorted.{non_decreasing_from_is_sorted}
 use lib.Dec.{leb, ltb, eqb}
-use lib.ListN.{length, get_or, drop, drop_of_length-le}
-use lib.Seq.{drop-cons}
+use lib.ListN.{length, get_or, take, drop, drop_of_length-le}
+use lib.Seq.{drop-cons, take_all, get_or-take, length-take-le}
 use borrow.Author.Tests.{eq-eqb, ne_eqb, lt-ltb, le-ltb, le-leb, lt-leb}
 use Rattle.laws.specs.Rows.{member, Rising}
 use Rattle.laws.specs.Parts.{row_of}
-use Rattle.laws.specs.Tests.{all_below, zero_at, zero_from}
+use Rattle.laws.specs.Tests.{all_below}
 use Rattle.laws.proofs.Bools.{and-stop, and_last, or-late}
 use Rattle.laws.proofs.Members.{member-at}
-use Rattle.laws.proofs.Passes.{Passed, passed-from, passed-fails, passed-done, zero-before}
+use Rattle.laws.proofs.Passes.{all_of, all-fails}
 use Rattle.arraymap.specs.Index.{list_at, Rows, RowOk}
 use Rattle.arraymap.specs.Show.{CanList}
 use Rattle.arraymap.specs.Check.{up_at, mark_at, ok_from, list_ok, listed_at, row_listed, holds_at, exact_at}
 use Rattle.arraymap.specs.Steps.{Span, Lists, Below}
 
--- ---- starts_rise
-pub up-no : (S : List ℕ) (z : ℕ) → get_or S (z + 1) 0 < get_or S z 0 → up_at S z ≡ false
+-- ---- `all` of a chain as a test over a range
+pub all-taken : (p : ℕ → Bool) (l : List ℕ) (q : ℕ → Bool) (n : ℕ) → n ≤ length l → ((i : ℕ) → i < n → p (get_or l i 0) ≡ q i) → list_all p (take n l) ≡ all_below n q
+unfolding all_below
+all-taken p [] q zero h f = refl
+all-taken p (x ∷ l) q zero h f = refl
+all-taken p l q (suc n) h f =
+    ap (λ (k : ℕ). list_all p (take k l)) (sym (add-one n)) ∙ list_all_more p l n 0 (omega arith)
+    ∙ ap₂ ◌&&◌ (all-taken p l q n (omega arith) (λ i k. f i (omega arith))) (f n (omega arith))
+
+pub all-numbers : (q : ℕ → Bool) (n : ℕ) → list_all q (range_with_len 0 n) ≡ all_below n q
+all-numbers q n =
+    let e = length-range_with_len 0 n in
+    ap (list_all q) (sym (take_all n (range_with_len 0 n) (omega arith)))
+    ∙ all-taken q (range_with_len 0 n) q n (omega arith) (λ i k. ap q (get_or-range_with_len 0 n i 0 k ∙ zero-add i))
+
+-- ---- the starts rise
+pub starts-up : (S : List ℕ) (m : ℕ) (r : Bool) → m < length S → IsAllAdjacentAnswer (λ x y b. is_some_and is_le (Some (nat_cmp x y)) ≡ b) (take (m + 1) S) r → r ≡ all_below m (up_at S)
 unfolding up_at
-up-no S z h = lt-leb (get_or S z 0) (get_or S (suc z) 0) (rw add-one at h)
+starts-up S m r w a = go r (non_decreasing_from_is_sorted (take (m + 1) S) r a)
+  where
+    go : (b : Bool) → MatchBool b (IsNonDecreasing (take (m + 1) S)) ((k : ℕ) × (k + 1 < length (take (m + 1) S)) × ((d : ℕ) → get_or (take (m + 1) S) (k + 1) d < get_or (take (m + 1) S) k d))
+        → b ≡ all_below m (up_at S)
+    go true f = sym (all_of (up_at S) m (λ z l.
+        let u = f z (z + 1) 0 (omega arith) (omega (arith, length-take-le (m + 1) S (omega arith))) in
+        le-leb (get_or S z 0) (get_or S (suc z) 0) (rw (get_or-take (m + 1) S z 0 (omega arith), get_or-take (m + 1) S (z + 1) 0 (omega arith), add-one) at u)))
+    go false (k, l, f) =
+        let g : k < m = omega (arith, length-take-le (m + 1) S (omega arith)) in
+        sym (all-fails (up_at S) m k g (lt-leb (get_or S k 0) (get_or S (suc k) 0)
+        (rw (get_or-take (m + 1) S k 0 (omega arith), get_or-take (m + 1) S (k + 1) 0 (omega arith), add-one) at (f 0))))
 
-pub up-yes : (S : List ℕ) (z : ℕ) → get_or S z 0 ≤ get_or S (z + 1) 0 → up_at S z ≡ true
-unfolding up_at
-up-yes S z h = le-leb (get_or S z 0) (get_or S (suc z) 0) (rw add-one at h)
-
--- ---- starts_zero, entries_zero, marks_zero
-pub zero-start : (l : List ℕ) (from : ℕ) → from ≤ length l → Passed (zero_at l from) (length l) from
-zero-start l from h = passed-from (zero_at l from) (length l) from h (λ i k. zero-before l from i k)
-
-pub zero-fails : (l : List ℕ) (from i : ℕ) → Passed (zero_at l from) (length l) i → i < length l → zero_at l from i ≡ false → false ≡ zero_from l from
-unfolding zero_from
-zero-fails l from i c h e = passed-fails (zero_at l from) (length l) i c h e
-
-pub zero-done : (l : List ℕ) (from i : ℕ) → Passed (zero_at l from) (length l) i → length l ≤ i → true ≡ zero_from l from
-unfolding zero_from
-zero-done l from i c h = passed-done (zero_at l from) (length l) i c h
-
--- ---- marks_ok
-pub mark-no : (marks : List ℕ) (z : ℕ) → 1 < get_or marks z 0 → mark_at marks z ≡ false
+-- ---- the marks
+pub marks_ok : (marks : List ℕ) (m : ℕ) (r : Bool) → m ≤ length marks → r ≡ list_all (λ x. leb x 1) (take m marks) → r ≡ all_below m (mark_at marks)
 unfolding mark_at
-mark-no marks z h = lt-leb (get_or marks z 0) 1 h
+marks_ok marks m r h e = e ∙ all-taken (λ x. leb x 1) marks (mark_at marks) m h (λ i k. refl)
 
 pub mark-yes : (marks : List ℕ) (z : ℕ) → get_or marks z 0 ≤ 1 → mark_at marks z ≡ true
 unfolding mark_at
@@ -123,10 +140,10 @@ module _ (slots counts : List ℕ) (h k m : ℕ) (R : Rows slots counts h k m) (
   pub row-rising : Rising row
   row-rising = record { rises = row_ok.rises }
 
-pub row-listed-is : (S E : List ℕ) (rows : ℕ → List ℕ) (y : ℕ) (row : List ℕ) (r b : Bool) → row ≡ rows y
-    → r ≡ all_below (length row) (listed_at S E row y) → r ≡ b → row_listed S E rows y ≡ b
+pub row-listed-is : (S E : List ℕ) (rows : ℕ → List ℕ) (y : ℕ) (row : List ℕ) (r : Bool) → row ≡ rows y
+    → r ≡ all_below (length row) (listed_at S E row y) → r ≡ row_listed S E rows y
 unfolding row_listed
-row-listed-is S E rows y row r b q s t = rw q at (sym s ∙ t)
+row-listed-is S E rows y row r q s = rw q at s
 
 module _ (l : List ℕ) (j y : ℕ) (e : y ≡ get_or l j 0) where
   pub below_at : (h : ℕ) → Below l h → j < length l → y < h
@@ -136,11 +153,15 @@ module _ (l : List ℕ) (j y : ℕ) (e : y ≡ get_or l j 0) where
   unfolding holds_at
   holds-is rows z row r b q s t = rw (q, e) at (sym s ∙ t)
 
+-- the list that was handed out is the column's
+pub exact-is : (rows : ℕ → List ℕ) (z : ℕ) (l k : List ℕ) → l ≡ k → (r : Bool) → r ≡ all_below (length l) (holds_at rows z l) → r ≡ all_below (length k) (holds_at rows z k)
+exact-is rows z l k q r s = rw q at s
+
 -- ---- exact_ok
 module _ (rows : ℕ → List ℕ) (S E logical marks : List ℕ) (edge z : ℕ) where
-  pub exact-frozen : (c : ℕ) → c ≡ get_or logical z 0 → edge ≤ c → exact_at rows S E logical marks edge z ≡ true
+  pub exact-frozen : edge ≤ get_or logical z 0 → exact_at rows S E logical marks edge z ≡ true
   unfolding exact_at
-  exact-frozen c e h = rw (le-ltb (get_or logical z 0) edge (omega arith))
+  exact-frozen h = rw (le-ltb (get_or logical z 0) edge h)
 
   pub exact-spent : (get_or marks z 0 ≡ 0 → ⊥) → exact_at rows S E logical marks edge z ≡ true
   unfolding exact_at
@@ -150,12 +171,11 @@ module _ (rows : ℕ → List ℕ) (S E logical marks : List ℕ) (edge z : ℕ)
       spent true b = refl
       spent false b = refl
 
-  module _ (l : List ℕ) (q : l ≡ list_at S E z) (r : Bool) (s : r ≡ all_below (length l) (holds_at rows z l)) where
-    pub exact-yes : r ≡ true → exact_at rows S E logical marks edge z ≡ true
-    unfolding exact_at
-    exact-yes t = or-late (not (ltb (get_or logical z 0) edge && eqb (get_or marks z 0) 0)) (all_below (length (list_at S E z)) (holds_at rows z (list_at S E z)))
-        (rw q at (sym s ∙ t))
+  pub exact-yes : all_below (length (list_at S E z)) (holds_at rows z (list_at S E z)) ≡ true → exact_at rows S E logical marks edge z ≡ true
+  unfolding exact_at
+  exact-yes t = or-late (not (ltb (get_or logical z 0) edge && eqb (get_or marks z 0) 0)) (all_below (length (list_at S E z)) (holds_at rows z (list_at S E z))) t
 
-    pub exact-no : (c : ℕ) → c ≡ get_or logical z 0 → c < edge → get_or marks z 0 ≡ 0 → r ≡ false → exact_at rows S E logical marks edge z ≡ false
-    unfolding exact_at
-    exact-no c e h u t = rw (lt-ltb (get_or logical z 0) edge (omega arith), eq-eqb (get_or marks z 0) 0 u) (rw q at (sym s ∙ t))
+  pub exact-no : get_or logical z 0 < edge → get_or marks z 0 ≡ 0 → all_below (length (list_at S E z)) (holds_at rows z (list_at S E z)) ≡ false
+      → exact_at rows S E logical marks edge z ≡ false
+  unfolding exact_at
+  exact-no h u t = rw (lt-ltb (get_or logical z 0) edge h, eq-eqb (get_or marks z 0) 0 u) t

@@ -2,12 +2,11 @@
 use mathlib.Core.Path.{◌≡◌, refl, sym, ◌∙◌}
 use mathlib.Core.Bool.{Bool, true, false, ◌&&◌, false≢true}
 use mathlib.Core.List.{List, [], ◌∷◌}
-use Prim.Native.Nat.{ℕ, suc, ◌+◌, ◌≤◌, ◌<◌}
+use Prim.Native.Nat.{ℕ, suc, ◌+◌, ◌<◌}
 use native.Mathlib.Numerals.{add-one}
-use native.Mathlib.Omega.{arith}
 use lib.Dec.{leb, ltb, eqb}
 use lib.ListN.{length, get_or}
-use borrow.Author.Tests.{eqb-true, eqb-false, eq-eqb, ne_eqb, lt-ltb, ltb-true, le-leb, lt-leb, leb-true, leb-false}
+use borrow.Author.Tests.{eqb-true, eqb-false, eq-eqb, lt-ltb, ltb-true, le-leb, leb-true, leb-false}
 use Rattle.laws.specs.Rows.{member, From}
 use Rattle.laws.specs.Tests.{all_below, zero_from}
 use Rattle.laws.proofs.Bools.{by-test, and-true, and_first, and_second, and-false, and-group}
@@ -41,48 +40,18 @@ ok_of lo h [] r f = refl
 ok_of lo h (x ∷ l) r f = and-true (leb lo x) (ltb x h && ok_from (suc x) h l) (le-leb lo x r.0)
     (and-true (ltb x h) (ok_from (suc x) h l) (lt-ltb x h (f x (member-head x l))) (ok_of (suc x) h l r.1 (λ y m. f y (member-later x y l m))))
 
--- ---- shape_ok
-module _ (m : ℕ) (S E M : List ℕ) where
-  pub shape-first : (get_or S 0 0 ≡ 0 → ⊥) → false ≡ shape_test m S E M
-  unfolding shape_test
-  shape-first n = rw (ne_eqb (get_or S 0 0) 0 n)
+-- ---- a chain of tests, each asked only where those before it passed: v is p && t
+pub asked : (p t v : Bool) → p ≡ true → v ≡ t → v ≡ p && t
+asked p t v e q = rw e q
 
-  pub shape-up : (r : Bool) → r ≡ all_below m (up_at S) → r ≡ false → false ≡ shape_test m S E M
-  unfolding shape_test
-  shape-up r q t = simp (sym q ∙ t, and-false)
+pub not-asked : (p t v : Bool) → p ≡ false → v ≡ p → v ≡ p && t
+not-asked p t v e q = rw e (q ∙ e)
 
-  module _ (end : ℕ) (e : end ≡ get_or S m 0) where
-    pub shape-end : length E < end → false ≡ shape_test m S E M
-    unfolding shape_test
-    shape-end l = simp (lt-leb (get_or S m 0) (length E) (omega arith), and-false)
-
-    module _ (r₄ : Bool) (q₄ : r₄ ≡ zero_from S (m + 1)) where
-      c₄ : zero_from S (suc m) ≡ r₄
-      c₄ = sym (rw add-one at q₄)
-
-      pub shape-starts : r₄ ≡ false → false ≡ shape_test m S E M
-      unfolding shape_test
-      shape-starts t = simp (c₄ ∙ t, and-false)
-
-      module _ (r₅ : Bool) (q₅ : r₅ ≡ zero_from E end) where
-        c₅ : zero_from E (get_or S m 0) ≡ r₅
-        c₅ = sym (rw e at q₅)
-
-        pub shape-entries : r₅ ≡ false → false ≡ shape_test m S E M
-        unfolding shape_test
-        shape-entries t = simp (c₅ ∙ t, and-false)
-
-        module _ (r₆ : Bool) (q₆ : r₆ ≡ zero_from M m) where
-          pub shape-marks : r₆ ≡ false → false ≡ shape_test m S E M
-          unfolding shape_test
-          shape-marks t = simp (sym q₆ ∙ t, and-false)
-
-          -- all passed but the last, which decides
-          pub shape-last : get_or S 0 0 ≡ 0 → (r₂ : Bool) → r₂ ≡ all_below m (up_at S) → r₂ ≡ true → end ≤ length E → r₄ ≡ true → r₅ ≡ true → r₆ ≡ true
-              → (r₇ : Bool) → r₇ ≡ all_below m (mark_at M) → r₇ ≡ shape_test m S E M
-          unfolding shape_test
-          shape-last p r₂ q₂ t₂ l t₄ t₅ t₆ r₇ q₇ =
-              rw (eq-eqb (get_or S 0 0) 0 p, sym q₂ ∙ t₂, le-leb (get_or S m 0) (length E) (omega arith), c₄ ∙ t₄, c₅ ∙ t₅, sym q₆ ∙ t₆) q₇
+-- ---- shape_ok: v₁ to v₆ are what the chain has come to
+pub shape-told : (m : ℕ) (S E M : List ℕ) (v₁ v₂ v₃ v₄ v₅ v₆ : Bool) → v₁ ≡ eqb (get_or S 0 0) 0 && all_below m (up_at S) → v₂ ≡ v₁ && leb (get_or S m 0) (length E)
+    → v₃ ≡ v₂ && zero_from S (m + 1) → v₄ ≡ v₃ && zero_from E (get_or S m 0) → v₅ ≡ v₄ && zero_from M m → v₆ ≡ v₅ && all_below m (mark_at M) → v₆ ≡ shape_test m S E M
+unfolding shape_test
+shape-told m S E M v₁ v₂ v₃ v₄ v₅ v₆ e₁ e₂ e₃ e₄ e₅ e₆ = rw (e₅, e₄, e₃, e₂, e₁, add-one) at e₆ ∙ simp and-group
 
 -- ---- sound: what the later tests lean on
 module _ (rows : ℕ → List ℕ) (h m : ℕ) (S E logical M : List ℕ) (edge : ℕ) where
@@ -99,13 +68,10 @@ module _ (rows : ℕ → List ℕ) (h m : ℕ) (S E logical M : List ℕ) (edge 
       pub sound-lists : r₂ ≡ false → false ≡ index_test rows h m S E logical M edge
       sound-lists t = rw split (simp (sym q₂ ∙ t, and-false))
 
-      module _ (r₃ : Bool) (q₃ : r₃ ≡ all_below h (row_listed S E rows)) where
-        pub sound-rows : r₃ ≡ false → false ≡ index_test rows h m S E logical M edge
-        sound-rows t = rw split (simp (sym q₃ ∙ t, and-false))
-
-        pub sound-last : r₁ ≡ true → r₂ ≡ true → r₃ ≡ true → (sparse : ℕ) → sparse ≡ edge → (r₄ : Bool) → r₄ ≡ all_below m (exact_at rows S E logical M sparse)
-            → r₄ ≡ index_test rows h m S E logical M edge
-        sound-last t₁ t₂ t₃ sparse e r₄ q₄ = rw (split, sym q₁ ∙ t₁, sym q₂ ∙ t₂, sym q₃ ∙ t₃) (rw e at q₄)
+      -- the two tests that lean on the lists: v is what they come to
+      pub sound-told : r₁ ≡ true → r₂ ≡ true → (r₃ : Bool) → r₃ ≡ all_below h (row_listed S E rows) → (v : Bool) → v ≡ r₃ && all_below m (exact_at rows S E logical M edge)
+          → v ≡ index_test rows h m S E logical M edge
+      sound-told t₁ t₂ r₃ q₃ v e = rw (split, sym q₁ ∙ t₁, sym q₂ ∙ t₂) (rw q₃ at e)
 
 -- the parts of a shape that passes
 record Shape (m : ℕ) (S E M : List ℕ) : Type 0 where
@@ -197,9 +163,8 @@ module _ (rows : ℕ → List ℕ) (h m : ℕ) (S E logical M : List ℕ) (edge 
     where
       exact : (z : ℕ) → z < m → exact_at rows S E logical M edge z ≡ true
       exact z l = by-test (leb edge (get_or logical z 0))
-          (λ a. exact-frozen rows S E logical M edge z (get_or logical z 0) refl (leb-true edge (get_or logical z 0) a))
+          (λ a. exact-frozen rows S E logical M edge z (leb-true edge (get_or logical z 0) a))
           (λ a. by-test (eqb (get_or M z 0) 0)
-          (λ b. exact-yes rows S E logical M edge z (list_at S E z) refl true
-          (sym (all_of (holds_at rows z (list_at S E z)) (length (list_at S E z))
-          (λ j g. v.only z (get_or (list_at S E z) j 0) l (leb-false edge (get_or logical z 0) a) (eqb-true (get_or M z 0) 0 b) (member-at (list_at S E z) j g)))) refl)
+          (λ b. exact-yes rows S E logical M edge z (all_of (holds_at rows z (list_at S E z)) (length (list_at S E z))
+          (λ j g. v.only z (get_or (list_at S E z) j 0) l (leb-false edge (get_or logical z 0) a) (eqb-true (get_or M z 0) 0 b) (member-at (list_at S E z) j g))))
           (λ b. exact-spent rows S E logical M edge z (eqb-false (get_or M z 0) 0 b)))

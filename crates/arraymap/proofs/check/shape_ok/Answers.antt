@@ -1,24 +1,55 @@
 -- `arraymap::check::shape_ok` meets its contract. Assumes nothing.
-use Rattle.arraymap.proofs.Verdict.{shape-first, shape-up, shape-end, shape-starts, shape-entries, shape-marks, shape-last}
+use mathlib.Core.Path.{refl, ◌∙◌}
+use lib.Dec.{leb}
+use lib.ListN.{take}
+use borrow.Author.Rules.{rules}
+use borrow.Author.Tests.{tests, eq-eqb, ne_eqb}
+use Rattle.std.proofs.lemmas.Iterator.{YieldsList-from_slice}
+use Rattle.std.proofs.lemmas.Iterator.Search.{all_from_yields_List}
+use Rattle.arraymap.proofs.Tests.{starts-up, marks_ok}
+use Rattle.arraymap.proofs.Verdict.{asked, not-asked, shape-told}
 use Rattle.arraymap.proofs.check.shape_ok.Goals as goal
+use Rattle.arraymap.proofs.check.shape_ok.Goals.{then-starts-eq0, else-starts-eq0, then-is_sorted, else-is_sorted, then-end-entries, else-end-entries, then-rest_zero, else-rest_zero, then-rest_zero-2, else-rest_zero-2}
 
-pub returns-then-starts-ne0 : goal.returns-then-starts-ne0
-returns-then-starts-ne0 c = shape-first _ _ _ _ c.if-starts-ne0.true
+pub returns-then-rest_zero-3 : goal.returns-then-rest_zero-3
+returns-then-rest_zero-3 c = shape-told _ _ _ _ _ _ _ _ _ _
+    (elim c.if-starts-eq0.branch [
+      | then-starts-eq0 w ↦ asked _ _ _ (eq-eqb _ _ w.if-starts-eq0.true) (w.value-is ∙ starts-up _ _ _ c.requires.wide w.is_sorted.ensures.cases)
+      | else-starts-eq0 w ↦ not-asked _ _ _ (ne_eqb _ _ w.if-starts-eq0.false) w.value-is
+    ])
+    (elim c.if-is_sorted.branch [ then-is_sorted w ↦ asked _ _ _ w.if-is_sorted.true w.value-is | else-is_sorted w ↦ not-asked _ _ _ w.if-is_sorted.false w.value-is ])
+    (elim c.if-end-entries.branch [
+      | then-end-entries w ↦ asked _ _ _ w.if-end-entries.true (w.value-is ∙ w.rest_zero.ensures)
+      | else-end-entries w ↦ not-asked _ _ _ w.if-end-entries.false w.value-is
+    ])
+    (elim c.if-rest_zero.branch [
+      | then-rest_zero w ↦ asked _ _ _ w.if-rest_zero.true (w.value-is ∙ w.rest_zero-then-rest_zero.ensures)
+      | else-rest_zero w ↦ not-asked _ _ _ w.if-rest_zero.false w.value-is
+    ])
+    (elim c.if-rest_zero-2.branch [
+      | then-rest_zero-2 w ↦ asked _ _ _ w.if-rest_zero-2.true (w.value-is ∙ w.rest_zero-then-rest_zero-2.ensures)
+      | else-rest_zero-2 w ↦ not-asked _ _ _ w.if-rest_zero-2.false w.value-is
+    ])
+    (asked _ _ _ c.if-rest_zero-3.true (marks_ok _ _ _ c.requires.marked
+    (all_from_yields_List (λ x. leb x 1) _ _ _ c.all.ensures.ran (YieldsList-from_slice (take c.args.m c.args.marks.now) (search rules)) (λ x b q k. search (rules, tests)))))
 
-pub returns-then-not-starts_rise : goal.returns-then-not-starts_rise
-returns-then-not-starts_rise c = shape-up _ _ _ _ _ c.starts_rise.ensures c.if-not-starts_rise.true
-
-pub returns-then-entries-end : goal.returns-then-entries-end
-returns-then-entries-end c = shape-end _ _ _ _ _ c.from_u64-end.ensures c.if-entries-end.true
-
-pub returns-then-not-starts_zero : goal.returns-then-not-starts_zero
-returns-then-not-starts_zero c = shape-starts _ _ _ _ _ c.from_u64-end.ensures _ c.starts_zero.ensures c.if-not-starts_zero.true
-
-pub returns-then-not-entries_zero : goal.returns-then-not-entries_zero
-returns-then-not-entries_zero c = shape-entries _ _ _ _ _ c.from_u64-end.ensures _ c.starts_zero.ensures _ c.entries_zero.ensures c.if-not-entries_zero.true
-
-pub returns-then-not-marks_zero : goal.returns-then-not-marks_zero
-returns-then-not-marks_zero c = shape-marks _ _ _ _ _ c.from_u64-end.ensures _ c.starts_zero.ensures _ c.entries_zero.ensures _ c.marks_zero.ensures c.if-not-marks_zero.true
-
-pub returns : goal.returns
-returns c = shape-last _ _ _ _ _ c.from_u64-end.ensures _ c.starts_zero.ensures _ c.entries_zero.ensures _ c.marks_zero.ensures c.if-starts-ne0.false _ c.starts_rise.ensures c.if-not-starts_rise.false c.if-entries-end.false c.if-not-starts_zero.false c.if-not-entries_zero.false c.if-not-marks_zero.false _ c.marks_ok.ensures
+pub returns-else-rest_zero-3 : goal.returns-else-rest_zero-3
+returns-else-rest_zero-3 c = shape-told _ _ _ _ _ _ _ _ _ _
+    (elim c.if-starts-eq0.branch [
+      | then-starts-eq0 w ↦ asked _ _ _ (eq-eqb _ _ w.if-starts-eq0.true) (w.value-is ∙ starts-up _ _ _ c.requires.wide w.is_sorted.ensures.cases)
+      | else-starts-eq0 w ↦ not-asked _ _ _ (ne_eqb _ _ w.if-starts-eq0.false) w.value-is
+    ])
+    (elim c.if-is_sorted.branch [ then-is_sorted w ↦ asked _ _ _ w.if-is_sorted.true w.value-is | else-is_sorted w ↦ not-asked _ _ _ w.if-is_sorted.false w.value-is ])
+    (elim c.if-end-entries.branch [
+      | then-end-entries w ↦ asked _ _ _ w.if-end-entries.true (w.value-is ∙ w.rest_zero.ensures)
+      | else-end-entries w ↦ not-asked _ _ _ w.if-end-entries.false w.value-is
+    ])
+    (elim c.if-rest_zero.branch [
+      | then-rest_zero w ↦ asked _ _ _ w.if-rest_zero.true (w.value-is ∙ w.rest_zero-then-rest_zero.ensures)
+      | else-rest_zero w ↦ not-asked _ _ _ w.if-rest_zero.false w.value-is
+    ])
+    (elim c.if-rest_zero-2.branch [
+      | then-rest_zero-2 w ↦ asked _ _ _ w.if-rest_zero-2.true (w.value-is ∙ w.rest_zero-then-rest_zero-2.ensures)
+      | else-rest_zero-2 w ↦ not-asked _ _ _ w.if-rest_zero-2.false w.value-is
+    ])
+    (not-asked _ _ _ c.if-rest_zero-3.false refl)
