@@ -23,6 +23,7 @@ pub trait Number: Copy + Default + PartialEq {
     ghost eq_law: { (x y : Self) → Self.eq x y ≡ eqb (num x) (num y) };
 }
 
+// An impl for each width, though all say the same: a macro that would write them may write no ghost member.
 impl Number for u8 {
     ghost num = { λ x. x };
 
