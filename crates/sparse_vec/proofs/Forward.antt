@@ -98,7 +98,7 @@ module _ (S : List ℕ) (d dl s sl : ℕ) (P : CanMerge S d dl s sl) where
         rest = H.rest ∙ at-eq (part S (d + sl) dl) (part S s sl) i j (omega (arith, d-long)) (omega (arith, s-long)) e;
       }
 
-    pub merging-more : i < dl → j < sl → (x y z : ℕ) → x ≡ get_or T (d + sl + i) 0 → y ≡ get_or T (s + j) 0 → z ≡ min x y
+    pub merging-more : i < dl → j < sl → (x y z : ℕ) → x ≡ get_or T (d + sl + i) 0 → y ≡ get_or T (s + j) 0 → z ≡ min y x
         → Merging S (set T (d + n) z) d dl s sl (i + bool_byte (leb x y)) (j + bool_byte (leb y x)) (n + bool_byte (not (eqb x y)))
     merging-more p q x y z ex ey ez =
         by_tests x y (λ u v w. Merging S (set T (d + n) z) d dl s sl (i + v) (j + w) (n + u))

@@ -12,9 +12,7 @@ use lib.Seq.{drop-cons}
 use borrow.Author.Tests.{le-leb, lt-leb, lt-ltb, le-ltb}
 use Rattle.laws.specs.Plain.{num}
 use Rattle.laws.specs.Parts.{put_at, over}
-use Rattle.std.specs.Prelude.{count_by}
-use Rattle.std.proofs.lemmas.List.Recursion.{is_count_by}
-use Rattle.laws.proofs.Bools.{by-test, and_last}
+use Rattle.laws.proofs.Bools.{and_last}
 use Rattle.laws.proofs.Select.{keep-length}
 use Rattle.sparse_vec.specs.Row.{walked}
 use Rattle.sparse_vec.specs.Calls.{CanWalk}
@@ -52,12 +50,6 @@ walked-length (z ∷ row) logical a b =
     num-most : (t : Bool) → num t ≤ 1
     num-most true = omega arith
     num-most false = omega arith
-
-pub walked-count : (row logical : List ℕ) (a b : ℕ) → count_by (λ z. leb a (get_or logical z 0) && ltb (get_or logical z 0) b) row ≡ length (walked logical a b row)
-unfolding walked
-walked-count row logical a b =
-    sym (is_count_by (λ r. length (walked logical a b r)) (λ z. leb a (get_or logical z 0) && ltb (get_or logical z 0) b) refl
-    (λ z r. by-test (leb a (get_or logical z 0) && ltb (get_or logical z 0) b) (λ t. rw t (omega arith)) (λ f. rw f)) row)
 
 -- n numbers of the first i are found
 pub record Seen (row logical : List ℕ) (a b i n : ℕ) : Type 0 where

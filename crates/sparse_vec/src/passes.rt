@@ -45,7 +45,7 @@ pub fn merge_forward(slots: &mut [u16], to: Row, from: Row) -> Reached
     while i < to.len && j < from.len {
         let x = slots[to.at + from.len + i];
         let y = slots[from.at + j];
-        slots[to.at + n] = x.min(y);
+        slots[to.at + n] = y.min(x);
         n += (x != y) as usize;
         i += (x <= y) as usize;
         j += (y <= x) as usize;
