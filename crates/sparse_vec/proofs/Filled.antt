@@ -1,13 +1,15 @@
 -- A stretch that is written place by place, from below or from above, and the loops over it. Assumes nothing.
-use mathlib.Core.Path.{◌≡◌, refl, ◌∙◌}
+use mathlib.Core.Path.{◌≡◌, refl, sym, ◌∙◌}
 use mathlib.Core.Logic.{⊎_elim}
 use mathlib.Core.List.{List}
 use Prim.Native.Nat.{ℕ, suc, ◌+◌, ◌≤◌, ◌<◌}
 use native.Mathlib.Omega.{arith}
 use lib.ListN.{length, get_or, set, length-set}
 use lib.Seq.{get_or-set_same, get_or-set_other}
-use Rattle.laws.specs.Parts.{put_at}
+use Rattle.laws.specs.Parts.{part, put_at}
 use Rattle.laws.proofs.Numbers.{lt-or-le}
+use Rattle.laws.proofs.Parts.{part_length, part_at}
+use Rattle.sparse_vec.specs.Passes.{CanBring}
 use Rattle.sparse_vec.proofs.Places.{is-put}
 
 -- T is S with the numbers lo to hi-1 of r, of n numbers, at their places in the stretch at b
@@ -54,3 +56,14 @@ module _ (S T : List ℕ) (b n : ℕ) (r : List ℕ) (lo hi : ℕ) (F : Filled S
   filled-done z h =
       is-put S T b r (omega (arith, F.fits, F.long)) F.same (λ m l. F.low m (omega arith))
       (λ k l. F.done k (omega arith) (omega (arith, F.long))) (λ m l. F.high m (omega (arith, F.long, F.hi-le)))
+
+-- ---- the k numbers at `from` written from `to` on
+module _ (S : List ℕ) (to from k : ℕ) (C : CanBring S to from k) where
+  pub bring-start : Filled S S to k (part S from k) 0 0
+  bring-start = filled-start S to k (part S from k) 0 C.fit-to (part_length S from k C.fit-from) (omega arith)
+
+  pub bring-more : (T : List ℕ) (j : ℕ) → Filled S T to k (part S from k) 0 j → j < k
+      → Filled S (set T (to + j) (get_or T (from + j) 0)) to k (part S from k) 0 (j + 1)
+  bring-more T j F h =
+      filled-up S T to k (part S from k) 0 j F (to + j) (j + 1) (get_or T (from + j) 0) refl (omega arith) h
+      (⊎_elim (λ o. F.high (from + j) (omega arith)) (λ o. F.low (from + j) (omega arith)) C.order ∙ sym (part_at S from k j h))

@@ -15,8 +15,8 @@ use Rattle.laws.proofs.Numbers.{lt-or-le}
 use Rattle.laws.proofs.Merge.{merge-length}
 use Rattle.laws.proofs.Parts.{zeros-length, pad-length, part_length, part_at, put-length, put-below, put-above, put-part, part_apart, put_same}
 use Rattle.sparse_vec.specs.Row.{put_row, row_sum}
-use Rattle.sparse_vec.specs.Passes.{CanMerge, Merging, Merged}
-use Rattle.lent.specs.Stretch.{Stretch, CanMove}
+use Rattle.sparse_vec.specs.Passes.{CanBring, CanMerge, Merging, Merged}
+use Rattle.lent.specs.Stretch.{Stretch}
 use Rattle.sparse_vec.proofs.Places.{put-outside, put-join, row-length}
 use Rattle.sparse_vec.proofs.Steps.{at_lt, at-gt, at-eq, at_rest, rest_more, rest-head, rest-tail, by_tests}
 
@@ -139,15 +139,16 @@ module _ (S : List ℕ) (d dl s sl : ℕ) (P : CanMerge S d dl s sl) where
     H : Merging S T d dl s sl i j n
     H = M.so_far
 
-    pub follow-d : CanMove T (d + sl + i) (d + n) (dl - i)
+    pub follow-d : CanBring T (d + n) (d + sl + i) (dl - i)
     follow-d = record {
-      there = omega (arith, H.same, H.n-le, H.i-le, H.j-le);
-      here = omega (arith, H.same, H.i-le);
+      fit-to = omega (arith, H.same, H.n-le, H.i-le, H.j-le);
+      fit-from = omega (arith, H.same, H.i-le);
+      order = inl (omega (arith, H.n-le, H.j-le));
     }
 
     d-rest : part T (d + sl + i) (dl - i) ≡ drop i (part S (d + sl) dl)
     d-rest =
-        let l : length (part T (d + sl + i) (dl - i)) ≡ dl - i = part_length T (d + sl + i) (dl - i) follow-d.here in
+        let l : length (part T (d + sl + i) (dl - i)) ≡ dl - i = part_length T (d + sl + i) (dl - i) follow-d.fit-from in
         ext_get_or 0 (part T (d + sl + i) (dl - i)) (drop i (part S (d + sl) dl)) (l ∙ simp length-drop (omega (arith, d-long)))
         (λ k h. let at : d + sl + i + k ≡ d + sl + (i + k) = omega arith in
         part_at T (d + sl + i) (dl - i) k (omega arith) ∙ ap (λ (m : ℕ). get_or T m 0) at
@@ -155,22 +156,23 @@ module _ (S : List ℕ) (d dl s sl : ℕ) (P : CanMerge S d dl s sl) where
 
     module _ (U : List ℕ) (u : U ≡ put_at T (d + n) (part T (d + sl + i) (dl - i))) where
       d-more : length (part T (d + sl + i) (dl - i)) ≡ dl - i
-      d-more = part_length T (d + sl + i) (dl - i) follow-d.here
+      d-more = part_length T (d + sl + i) (dl - i) follow-d.fit-from
 
       d-fit : d + n + length (part T (d + sl + i) (dl - i)) ≤ length T
-      d-fit = omega (arith, d-more, follow-d.there)
+      d-fit = omega (arith, d-more, follow-d.fit-to)
 
       u-long : length U ≡ length S
       u-long = ap length u ∙ put-length T (d + n) (part T (d + sl + i) (dl - i)) d-fit ∙ H.same
 
-      pub follow-s : CanMove U (s + j) (d + n + (dl - i)) (sl - j)
+      pub follow-s : CanBring U (d + n + (dl - i)) (s + j) (sl - j)
       follow-s = record {
-        there = omega (arith, u-long, H.n-le, H.i-le, H.j-le);
-        here = omega (arith, u-long, H.j-le, P.fit-s);
+        fit-to = omega (arith, u-long, H.n-le, H.i-le, H.j-le);
+        fit-from = omega (arith, u-long, H.j-le, P.fit-s);
+        order = ⊎_elim (λ o. inl (omega (arith, H.n-le, H.i-le, H.j-le))) (λ o. inr (omega (arith, H.j-le))) P.apart;
       }
 
       s-more : length (part U (s + j) (sl - j)) ≡ sl - j
-      s-more = part_length U (s + j) (sl - j) follow-s.here
+      s-more = part_length U (s + j) (sl - j) follow-s.fit-from
 
       s-rest : part U (s + j) (sl - j) ≡ drop j (part S s sl)
       s-rest =
@@ -202,7 +204,7 @@ module _ (S : List ℕ) (d dl s sl : ℕ) (P : CanMerge S d dl s sl) where
 
       module _ (Q : List ℕ) (v : Q ≡ put_at U (d + n + (dl - i)) (part U (s + j) (sl - j))) where
         s-fit : d + n + (dl - i) + length (part U (s + j) (sl - j)) ≤ length U
-        s-fit = omega (arith, s-more, follow-s.there)
+        s-fit = omega (arith, s-more, follow-s.fit-to)
 
         v-long : length Q ≡ length S
         v-long = ap length v ∙ put-length U (d + n + (dl - i)) (part U (s + j) (sl - j)) s-fit ∙ u-long
@@ -213,7 +215,7 @@ module _ (S : List ℕ) (d dl s sl : ℕ) (P : CanMerge S d dl s sl) where
         v-is : Q ≡ put_at T (d + n) (drop n (row_sum S (d + sl) dl s sl))
         v-is =
             v ∙ ap (λ (l : List ℕ). put_at l (d + n + (dl - i)) (part U (s + j) (sl - j))) u
-            ∙ put-join T (d + n) (part T (d + sl + i) (dl - i)) (part U (s + j) (sl - j)) (d + n + (dl - i)) (omega (arith, d-more)) (omega (arith, d-more, s-more, follow-s.there, u-long, H.same))
+            ∙ put-join T (d + n) (part T (d + sl + i) (dl - i)) (part U (s + j) (sl - j)) (d + n + (dl - i)) (omega (arith, d-more)) (omega (arith, d-more, s-more, follow-s.fit-to, u-long, H.same))
             ∙ ap (λ (l : List ℕ). put_at T (d + n) l) (sym rests)
 
         front : T ≡ put_at T d (take n (row_sum S (d + sl) dl s sl))

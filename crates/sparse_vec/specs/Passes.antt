@@ -19,6 +19,12 @@ insert_at i x l = take i l ++ (x ∷ drop i l)
 unfoldable pub remove_at : ℕ → List ℕ → List ℕ
 remove_at i l = take i l ++ drop (suc i) l
 
+-- the k numbers at `from` can be written from `to` on, first to last, and none is overwritten before it is read
+pub record CanBring (slots : List ℕ) (to from k : ℕ) : Type 0 where
+  pub fit-to : to + k ≤ length slots
+  pub fit-from : from + k ≤ length slots
+  pub order : (to ≤ from) ⊎ (from + k ≤ to)
+
 -- ---- the one pass where both rows together have room
 
 -- a stretch at d with room for dl + sl numbers, and the sl numbers at s apart from it

@@ -1,9 +1,9 @@
 // The sum of two rows over bits, in place of the first: no scratch, linear, and refused exactly where the sum has no room.
 ghost use Rattle.std.specs.Prelude.{◌≡◌, [], ◌∷◌, ◌+◌, ◌≤◌, leb, length};
 ghost use Rattle.laws.specs.Rows.{xor_merge};
-ghost use Rattle.laws.specs.Parts.{part};
+ghost use Rattle.laws.specs.Parts.{part, put_at};
 ghost use Rattle.sparse_vec.specs.Row.{put_row, HasRow, CanAdd, row_sum, sum_in, added_to};
-ghost use Rattle.sparse_vec.specs.Passes.{CanMerge};
+ghost use Rattle.sparse_vec.specs.Passes.{CanMerge, CanBring};
 
 use crate::Row;
 use crate::change::{insert_at, remove_at};
@@ -42,6 +42,17 @@ fn add_one(slots: &mut [u16], to: Row, x: u16) -> Option<usize>
     }
 }
 
+// Writes the k numbers at `from` to the places from `to` on, the first one first. Not `lent::move_stretch`: two rows of 2 numbers are added in 40 ns with it, in
+// 31 so, and two of 8 in 88 and 80.
+fn bring(slots: &mut [u16], to: usize, from: usize, k: usize)
+    requires { CanBring slots.old to from k }
+    ensures { slots.new ≡ put_at slots.old to (part slots.old from k) }
+{
+    for j in 0..k {
+        slots[to + j] = slots[from + j];
+    }
+}
+
 // Adds row `from` to row `to` where both together have room: row `to` moves right by from.len, and one pass merges to the left.
 fn add_roomy(slots: &mut [u16], to: Row, from: Row) -> usize
     requires { CanMerge slots.old to.at to.len from.at from.len }
@@ -51,9 +62,9 @@ fn add_roomy(slots: &mut [u16], to: Row, from: Row) -> usize
     let m = merge_forward(slots, to, from);
     // one of the two rests is empty
     let more = to.len - m.i;
-    move_stretch(slots, to.at + from.len + m.i, to.at + m.n, more);
+    bring(slots, to.at + m.n, to.at + from.len + m.i, more);
     let last = from.len - m.j;
-    move_stretch(slots, from.at + m.j, to.at + m.n + more, last);
+    bring(slots, to.at + m.n + more, from.at + m.j, last);
     let n = m.n + more + last;
     clear(slots, to.at + n, to.at + to.len + from.len);
     n

@@ -42,6 +42,7 @@ pub fn merge_forward(slots: &mut [u16], to: Row, from: Row) -> Reached
     let mut i = 0;
     let mut j = 0;
     let mut n = 0;
+    // a `for` has one index: these two run at different speeds
     while i < to.len && j < from.len {
         let x = slots[to.at + from.len + i];
         let y = slots[from.at + j];
@@ -72,6 +73,7 @@ pub fn merge_up(slots: &mut [u16], to: Row, from: Row, n: usize)
     let mut j = from.len;
     let mut w = n;
     let mut b = to.len;
+    // no `for`: the numbers of `from` are taken at some turns, and those of `to` at others
     while 0 < j {
         let g = j - 1;
         let y = slots[from.at + g];
@@ -109,6 +111,7 @@ pub fn merge_on(slots: &mut [u16], to: Row, from: Row, n: usize)
     let mut i = 0;
     let mut j = 0;
     let mut w = 0;
+    // no `for`: the numbers of `from` are taken at some turns, and those of `to` at others
     while j < from.len {
         let y = slots[from.at + j];
         if i < w {

@@ -4,13 +4,13 @@ use mathlib.Core.Path.{refl}
 use native.Mathlib.Omega.{arith}
 use Rattle.sparse_vec.proofs.add.add_roomy.Goals as goal
 
-pub move_stretch-requires-2 : goal.move_stretch-requires-2
-move_stretch-requires-2 c = let p = moved-can _ _ _ _ _ c.requires _ c.move_stretch.ensures in let e = c.merge_forward-m.ensures in let h = e.so_far in
+pub bring-requires : goal.bring-requires
+bring-requires c = let p = moved-can _ _ _ _ _ c.requires _ c.move_stretch.ensures in let e = c.merge_forward-m.ensures in let h = e.so_far in
     follow-d _ _ _ _ _ p _ _ _ _ e
 
-pub move_stretch-requires-3 : goal.move_stretch-requires-3
-move_stretch-requires-3 c = let p = moved-can _ _ _ _ _ c.requires _ c.move_stretch.ensures in let e = c.merge_forward-m.ensures in let h = e.so_far in
-    follow-s _ _ _ _ _ p _ _ _ _ e _ c.move_stretch-2.ensures
+pub bring-requires-2 : goal.bring-requires-2
+bring-requires-2 c = let p = moved-can _ _ _ _ _ c.requires _ c.move_stretch.ensures in let e = c.merge_forward-m.ensures in let h = e.so_far in
+    follow-s _ _ _ _ _ p _ _ _ _ e _ c.bring.ensures
 
 pub overflow_add-n : goal.overflow_add-n
 overflow_add-n c = let h = c.merge_forward-m.ensures.so_far in let g = c.type_inv.slots in omega (arith, h.n-le, h.i-le, h.j-le, c.requires.fit-d)
@@ -20,11 +20,11 @@ overflow_add-n-2 c = let h = c.merge_forward-m.ensures.so_far in let g = c.type_
 
 pub clear-requires : goal.clear-requires
 clear-requires c = let p = moved-can _ _ _ _ _ c.requires _ c.move_stretch.ensures in let e = c.merge_forward-m.ensures in let h = e.so_far in
-    merged-clear _ _ _ _ _ p _ _ _ _ e _ c.move_stretch-2.ensures _ c.move_stretch-3.ensures _ refl
+    merged-clear _ _ _ _ _ p _ _ _ _ e _ c.bring.ensures _ c.bring-2.ensures _ refl
 
 pub returns : goal.returns
 returns c = let p = moved-can _ _ _ _ _ c.requires _ c.move_stretch.ensures in let e = c.merge_forward-m.ensures in let h = e.so_far in
-    let u = c.move_stretch-2.ensures in
+    let u = c.bring.ensures in
     moved_row _ _ _ _ _ c.requires _ c.move_stretch.ensures _ _
     (merged-count _ _ _ _ _ p _ _ _ _ e _ u)
-    (merged-row _ _ _ _ _ p _ _ _ _ e _ u _ c.move_stretch-3.ensures _ _ refl c.clear.ensures)
+    (merged-row _ _ _ _ _ p _ _ _ _ e _ u _ c.bring-2.ensures _ _ refl c.clear.ensures)
