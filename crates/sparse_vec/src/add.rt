@@ -43,7 +43,7 @@ fn add_one(slots: &mut [u16], to: Row, x: u16) -> Option<usize>
 }
 
 // Writes the k numbers at `from` to the places from `to` on, the first one first. Not `lent::move_stretch`: two rows of 2 numbers are added in 40 ns with it, in
-// 31 so, and two of 8 in 88 and 80.
+// 31 so, and two of 8 in 88 and 77.
 fn bring(slots: &mut [u16], to: usize, from: usize, k: usize)
     requires { CanBring slots.old to from k }
     ensures { slots.new ≡ put_at slots.old to (part slots.old from k) }
