@@ -1,10 +1,16 @@
 // The lines with no number, one or three, and digits alone.
 use crate::show;
+use lines::Lines;
 
 // The line `ok`.
 pub fn ok() {
     let mut out = [46u8; 96];
-    let end = lines::put_ok(&mut out, 3);
+    let mut to = Lines {
+        bytes: &mut out,
+        used: 3,
+    };
+    to.put_ok();
+    let end = to.used;
     show(&out, 3, end);
 }
 
@@ -12,7 +18,12 @@ pub fn ok() {
 pub fn no(k: u32) {
     let mut out = [46u8; 96];
     let long = 4 + lines::dec_length(k as u64);
-    let end = lines::put_no(&mut out, 3, k);
+    let mut to = Lines {
+        bytes: &mut out,
+        used: 3,
+    };
+    to.put_no(k);
+    let end = to.used;
     show(&out, long, end);
 }
 
@@ -20,7 +31,12 @@ pub fn no(k: u32) {
 pub fn number(x: u32) {
     let mut out = [46u8; 96];
     let long = 4 + lines::dec_length(x as u64);
-    let end = lines::put_number(&mut out, 3, x);
+    let mut to = Lines {
+        bytes: &mut out,
+        used: 3,
+    };
+    to.put_number(x);
+    let end = to.used;
     show(&out, long, end);
 }
 
@@ -31,7 +47,12 @@ pub fn three(a: u32, b: u32, c: u32) {
         + lines::dec_length(a as u64)
         + lines::dec_length(b as u64)
         + lines::dec_length(c as u64);
-    let end = lines::put_three(&mut out, 3, a, b, c);
+    let mut to = Lines {
+        bytes: &mut out,
+        used: 3,
+    };
+    to.put_three(a, b, c);
+    let end = to.used;
     show(&out, long, end);
 }
 
@@ -39,6 +60,11 @@ pub fn three(a: u32, b: u32, c: u32) {
 pub fn digits(n: u64) {
     let mut out = [46u8; 96];
     let long = lines::dec_length(n);
-    let end = lines::put_dec(&mut out, 3, n);
+    let mut to = Lines {
+        bytes: &mut out,
+        used: 3,
+    };
+    to.put_dec(n);
+    let end = to.used;
     show(&out, long, end);
 }

@@ -5,6 +5,8 @@ ghost use Rattle.std.specs.Prelude.{◌≤◌, length};
 
 mod digits;
 
+use lines::{Decimal, Lines};
+
 // Shows a trial: the bytes before `end`, and the two after it.
 pub fn show(out: &[u8], long: usize, end: usize) {
     io::write_all(1, b"long ");
@@ -22,26 +24,19 @@ pub fn show(out: &[u8], long: usize, end: usize) {
     io::write_all(1, b"\n");
 }
 
-// The line of the numbers, where it has room.
-fn list(nums: &[u32])
+// The line of the numbers, of 32 bits or 64, where it has room.
+fn list<T: Decimal>(nums: &[T])
     requires { length nums.now ≤ 65536 }
 {
     let mut out = [46u8; 96];
     let long = lines::list_length(nums);
     if long <= 93 {
-        let end = lines::put_list(&mut out, 3, nums);
-        show(&out, long, end);
-    }
-}
-
-// The line of the words, where it has room.
-fn words(nums: &[u64])
-    requires { length nums.now ≤ 65536 }
-{
-    let mut out = [46u8; 96];
-    let long = lines::words_length(nums);
-    if long <= 93 {
-        let end = lines::put_words(&mut out, 3, nums);
+        let mut to = Lines {
+            bytes: &mut out,
+            used: 3,
+        };
+        to.put_list(nums);
+        let end = to.used;
         show(&out, long, end);
     }
 }
@@ -67,6 +62,6 @@ fn main() {
     list(&five);
     let no_words = [0u64; 0];
     let three = [0u64, 18446744073709551615, 9223372036854775808];
-    words(&no_words);
-    words(&three);
+    list(&no_words);
+    list(&three);
 }

@@ -1,7 +1,7 @@
 -- `lines::digits::dec_length` meets its contract. Assumes nothing.
 use mathlib.Core.Path.{sym}
 use native.Mathlib.Omega.{arith}
-use Rattle.lines.proofs.Decimal.{one-long, more-long, dec-short}
+use Rattle.lines.proofs.Dec.{one-long, more-long, dec-short}
 use Rattle.lines.proofs.digits.+dec_length.Goals as goal
 
 pub returns-then-n-lt10 : goal.returns-then-n-lt10

@@ -1,11 +1,7 @@
 -- `lines::lists::list_length` meets its contract. Assumes nothing.
-use Prim.Native.Nat.{◌-◌}
-use lib.ListN.{length}
-use Rattle.lines.proofs.Numbers.{Measuring}
+use Rattle.std.proofs.Common.{◌≡◌, ◌+◌, ◌*◌, ◌≤◌, length}
+use Rattle.lines.proofs.Numbers.{before}
 use Rattle.lines.proofs.lists.list_length.Given as goal
 
-abbrev pub invariant-loop-i : goal.invariant-loop-i
-invariant-loop-i l = Measuring l.nums l.long l.i
-
-abbrev pub decreases-loop-i : goal.decreases-loop-i
-decreases-loop-i l = length l.nums - l.i
+abbrev pub invariant-loop-n : goal.invariant-loop-n
+invariant-loop-n g l = (l.long ≡ 3 + length (before g.T.Decimal.number l.nums l.n-index)) × (l.long ≤ 3 + 21 * l.n-index)

@@ -1,8 +1,8 @@
--- `lines::digits::put_dec` meets its contract. Assumes nothing.
-use Rattle.lines.proofs.Decimal.{one-long, two-long, hundred-long}
+-- `lines::digits::put_digits` meets its contract. Assumes nothing.
+use Rattle.lines.proofs.Dec.{one-long, two-long, hundred-long}
 use Rattle.lines.proofs.Writing.{put_one, put-pair, put_last}
 use native.Mathlib.Omega.{arith}
-use Rattle.lines.proofs.digits.+put_dec.Goals as goal
+use Rattle.lines.proofs.digits.+put_digits.Goals as goal
 
 pub overflow_cast-out : goal.overflow_cast-out
 overflow_cast-out t c = omega arith
@@ -28,14 +28,14 @@ overflow_add-result-then-n-lt100 t c = omega (arith, two-long c.args.n (omega ar
 pub returns-then-n-lt100 : goal.returns-then-n-lt100
 returns-then-n-lt100 t c = record { value = omega (arith, two-long c.args.n (omega arith) c.if-n-lt100.true); out_after = put-pair _ _ _ c.args.n (omega arith) c.if-n-lt100.true c.put_two.ensures }
 
-pub put_dec-p-requires : goal.put_dec-p-requires
-put_dec-p-requires t c = (omega arith, omega (arith, hundred-long c.args.n (omega arith)))
+pub put_digits-p-requires : goal.put_digits-p-requires
+put_digits-p-requires t c = (omega arith, omega (arith, hundred-long c.args.n (omega arith)))
 
 pub put_two-requires-2 : goal.put_two-requires-2
-put_two-requires-2 t c = (omega arith, omega (arith, hundred-long c.args.n (omega arith), c.put_dec-p.ensures.value, c.put_dec-p.auto.out))
+put_two-requires-2 t c = (omega arith, omega (arith, hundred-long c.args.n (omega arith), c.put_digits-p.ensures.value, c.put_digits-p.auto.out))
 
 pub overflow_add-result-2 : goal.overflow_add-result-2
-overflow_add-result-2 t c = omega (arith, hundred-long c.args.n (omega arith), c.put_dec-p.ensures.value)
+overflow_add-result-2 t c = omega (arith, hundred-long c.args.n (omega arith), c.put_digits-p.ensures.value)
 
 pub returns : goal.returns
-returns t c = record { value = omega (arith, hundred-long c.args.n (omega arith), c.put_dec-p.ensures.value); out_after = put_last _ _ _ _ _ c.args.n (omega arith) c.put_dec-p.ensures.out_after c.put_dec-p.ensures.value c.put_two-2.ensures }
+returns t c = record { value = omega (arith, hundred-long c.args.n (omega arith), c.put_digits-p.ensures.value); out_after = put_last _ _ _ _ _ c.args.n (omega arith) c.put_digits-p.ensures.out_after c.put_digits-p.ensures.value c.put_two-2.ensures }
