@@ -8,53 +8,34 @@ fn number(x: u64) {
     io::print_decimal(1, x);
 }
 
-// A space and the place.
-fn place(x: u32) {
-    number(x as u64);
-}
-
-fn none(name: &[u8]) {
+// A kind's name and its places, a space before each.
+fn named(name: &[u8], places: &[u32]) {
     io::write_all(1, b" ");
     io::write_all(1, name);
-}
-
-fn one(name: &[u8], a: u32) {
-    none(name);
-    place(a);
-}
-
-fn two(name: &[u8], a: u32, b: u32) {
-    one(name, a);
-    place(b);
-}
-
-fn three(name: &[u8], a: u32, b: u32, c: u32) {
-    two(name, a, b);
-    place(c);
+    for p in places {
+        number(u64::from(*p));
+    }
 }
 
 // The operation's kind, as 01 names it, and its places.
 fn kind(op: Op) {
     match op {
-        Op::Make(p) => {
-            three(b"MAKE", p.h, p.w, p.n);
-            place(p.slots);
-        }
-        Op::Set(p) => three(b"SET", p.r, p.c, p.v as u32),
-        Op::SwapR(p) => two(b"SWAPR", p.i, p.j),
-        Op::SwapC(p) => two(b"SWAPC", p.i, p.j),
-        Op::Add(p) => three(b"ADD", p.d, p.s, p.start),
-        Op::On => none(b"ON"),
-        Op::Off => none(b"OFF"),
-        Op::Freeze(p) => one(b"FREEZE", p.c),
-        Op::Resize(p) => two(b"RESIZE", p.h, p.w),
-        Op::Get(p) => two(b"GET", p.r, p.c),
-        Op::Count(p) => three(b"COUNT", p.r, p.a, p.b),
-        Op::Words(p) => two(b"WORDS", p.r, p.a),
-        Op::TailOnes(p) => two(b"TAILONES", p.r, p.a),
-        Op::Iter(p) => three(b"ITER", p.r, p.a, p.b),
-        Op::ColOnes(p) => three(b"COLONES", p.c, p.a, p.b),
-        Op::Size => none(b"SIZE"),
+        Op::Make(p) => named(b"MAKE", &[p.h, p.w, p.n, p.slots]),
+        Op::Set(p) => named(b"SET", &[p.r, p.c, u32::from(p.v)]),
+        Op::SwapR(p) => named(b"SWAPR", &[p.i, p.j]),
+        Op::SwapC(p) => named(b"SWAPC", &[p.i, p.j]),
+        Op::Add(p) => named(b"ADD", &[p.d, p.s, p.start]),
+        Op::On => named(b"ON", &[]),
+        Op::Off => named(b"OFF", &[]),
+        Op::Freeze(p) => named(b"FREEZE", &[p.c]),
+        Op::Resize(p) => named(b"RESIZE", &[p.h, p.w]),
+        Op::Get(p) => named(b"GET", &[p.r, p.c]),
+        Op::Count(p) => named(b"COUNT", &[p.r, p.a, p.b]),
+        Op::Words(p) => named(b"WORDS", &[p.r, p.a]),
+        Op::TailOnes(p) => named(b"TAILONES", &[p.r, p.a]),
+        Op::Iter(p) => named(b"ITER", &[p.r, p.a, p.b]),
+        Op::ColOnes(p) => named(b"COLONES", &[p.c, p.a, p.b]),
+        Op::Size => named(b"SIZE", &[]),
     }
 }
 
