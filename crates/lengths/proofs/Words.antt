@@ -1,11 +1,12 @@
 -- A row's tail columns that hold one, measured word by word, and a word's ones from the lowest up. Assumes nothing.
-use mathlib.Core.Path.{◌≡◌, refl}
+use mathlib.Core.Path.{◌≡◌, refl, ◌∙◌}
 use mathlib.Core.List.{List, [], ◌∷◌}
 use Prim.Native.Nat.{ℕ, ◌+◌, ◌-◌, ◌*◌, ◌/◌, ◌^◌, ◌≤◌, ◌<◌}
 use native.Mathlib.Omega.{arith}
 use lib.Bits.{bit_and, and_le_r}
 use lib.Count.{count_trailing_zeros}
-use lib.ListN.{get_or}
+use lib.ListN.{get_or, take, drop}
+use Rattle.std.proofs.lemmas.List.{get_or-take, get_or-drop}
 use Rattle.table.specs.Run.{ok}
 use Rattle.laws.specs.Words.{words_for, padding, digit}
 use Rattle.laws.proofs.Select.{count_most}
@@ -15,6 +16,10 @@ use Rattle.tail.specs.Tail.{tail_bit, tail_ones}
 use Rattle.tail.proofs.WordOnes.{word_low, word_none, rest_ones, column_at, Walk, walk_start, walk_more, walk-all, walk-word, walk_end}
 use Rattle.lengths.specs.Length.{Takes}
 use Rattle.lengths.proofs.Measured.{Measured, measured-start, measured-more, measured-list, measured-line}
+
+-- word i of the part of n words from place `at` on
+pub part-word : (ws : List ℕ) (at n i : ℕ) → i < n → get_or (take (at + n - at) (drop at ws)) i 0 ≡ get_or ws (at + i) 0
+part-word ws at n i h = get_or-take (at + n - at) (drop at ws) i 0 (omega arith) ∙ get_or-drop at ws i 0
 
 -- ---- a word: the ones of w are still to be measured
 pub record WordSoFar (word base w long : ℕ) : Type 0 where

@@ -1,4 +1,5 @@
 // The line of the rows that hold one in a column, which COLONES answers.
+// Its loop is `row_length`'s over other widths. One generic for both is no plainer: u32 has no From to usize, so it takes a trait, and a third list between `walked` and `shown`, for three lines.
 ghost use Rattle.std.specs.Prelude.{◌≡◌};
 ghost use Rattle.table.specs.Run.{ok};
 ghost use Rattle.lines.specs.Line.{line_long};
@@ -20,11 +21,8 @@ pub fn column_length(
     ensures { result ≡ line_long (ok (shown logical.now a b list.now)) }
 {
     let mut long = 3;
-    let mut j = 0;
-    while j < list.len() {
-        let y = list[j] as usize;
-        long += number::length_within(a, b, logical[y]);
-        j += 1;
+    for y in list {
+        long += number::length_within(a, b, logical[*y as usize]);
     }
     long
 }

@@ -13,11 +13,8 @@ pub fn row_length(row: &[u16], logical: &[u16], a: u32, b: u32) -> usize
     ensures { result ≡ line_long (ok (walked logical.now a b row.now)) }
 {
     let mut long = 3;
-    let mut i = 0;
-    while i < row.len() {
-        let z = row[i] as usize;
-        long += number::length_within(a, b, logical[z] as u32);
-        i += 1;
+    for z in row {
+        long += number::length_within(a, b, logical[*z as usize] as u32);
     }
     long
 }

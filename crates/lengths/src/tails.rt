@@ -18,9 +18,8 @@ pub fn tail_length(ws: &[u64], n: u32, y: usize, base: u32) -> usize
     let mut long = 3;
     let mut first = base;
     let mut shift = tail::padding_of(n); // goes out of the first word; no later word has padding
-    for j in 0..s {
-        let i = row + j;
-        long += word_length(ws[i] >> shift, first);
+    for word in &ws[row..row + s] {
+        long += word_length(*word >> shift, first);
         first += 64 - shift;
         shift = 0;
     }
@@ -35,7 +34,7 @@ fn word_length(word: u64, base: u32) -> usize
     let mut long = 0;
     while w != 0 {
         long += number::number_length((base as u64) + (u64::trailing_zeros(w) as u64));
-        // The lowest one goes out (01: never by trying 64 bits).
+        // The lowest one goes out (01: never by trying 64 bits); the library has no iterator over a word's ones.
         w = w & (w - 1);
     }
     long

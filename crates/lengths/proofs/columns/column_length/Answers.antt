@@ -5,23 +5,23 @@ use Rattle.arraymap.proofs.Shown.{row-mapped}
 use Rattle.lengths.proofs.Shown.{column-start, column-more, column-short, column-done}
 use Rattle.lengths.proofs.columns.column_length.Goals as goal
 
-pub loop-j-init : goal.loop-j-init
-loop-j-init c = column-start _ _ _ _
+pub loop-y-init : goal.loop-y-init
+loop-y-init c = column-start _ _ _ _
 
 pub overflow_cast-y : goal.overflow_cast-y
-overflow_cast-y c = omega (arith, c.type_inv.list c.loop-j.j)
+overflow_cast-y c = omega (arith, c.type_inv.list c.loop-y.y-index)
 
 pub offset_bounds-logical-y : goal.offset_bounds-logical-y
-offset_bounds-logical-y c = omega (arith, row-mapped _ _ _ _ c.loop-j.j _ c.requires.shows (omega arith) refl)
+offset_bounds-logical-y c = omega (arith, row-mapped _ _ _ _ c.loop-y.y-index _ c.requires.shows (omega arith) refl)
 
 pub bounds-logical-y : goal.bounds-logical-y
-bounds-logical-y c = omega (arith, row-mapped _ _ _ _ c.loop-j.j _ c.requires.shows (omega arith) refl)
+bounds-logical-y c = omega (arith, row-mapped _ _ _ _ c.loop-y.y-index _ c.requires.shows (omega arith) refl)
 
-pub loop-j-preserved : goal.loop-j-preserved
-loop-j-preserved c = column-more _ _ _ _ _ _ _ _ c.requires c.loop-j.invariant _ (omega arith) c.length_within-long.ensures
+pub loop-y-preserved : goal.loop-y-preserved
+loop-y-preserved c = column-more _ _ _ _ _ _ _ _ c.requires c.loop-y.invariant _ (omega arith) c.length_within-long.ensures
 
 pub overflow_add-long : goal.overflow_add-long
-overflow_add-long c = omega (arith, column-short _ _ _ _ _ _ _ _ c.requires (column-more _ _ _ _ _ _ _ _ c.requires c.loop-j.invariant _ (omega arith) c.length_within-long.ensures))
+overflow_add-long c = omega (arith, column-short _ _ _ _ _ _ _ _ c.requires (column-more _ _ _ _ _ _ _ _ c.requires c.loop-y.invariant _ (omega arith) c.length_within-long.ensures))
 
 pub returns : goal.returns
-returns c = column-done _ _ _ _ _ _ _ _ c.requires c.loop-j.invariant c.loop-j-test.false
+returns c = column-done _ _ _ _ _ _ _ _ c.requires c.loop-y.invariant c.loop-y-test.false
