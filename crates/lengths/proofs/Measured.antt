@@ -1,6 +1,6 @@
 -- What numbers take of a line, and a list measured piece by piece. Assumes nothing.
 use mathlib.Core.Path.{◌≡◌, refl, sym, ap, ◌∙◌}
-use mathlib.Core.List.{List, [], ◌∷◌, ◌++◌, append_assoc}
+use mathlib.Core.List.{List, [], ◌∷◌, ◌++◌}
 use Prim.Native.Nat.{ℕ, ◌+◌, ◌*◌, ◌≤◌, ◌<◌}
 use native.Mathlib.Omega.{arith}
 use lib.Dec.{leb, ltb}
@@ -8,7 +8,8 @@ use lib.ListN.{length, length-append}
 use borrow.Author.Tests.{le-leb, lt-leb, lt-ltb, le-ltb}
 use Rattle.table.specs.Run.{ok}
 use Rattle.laws.proofs.Bools.{and_last}
-use Rattle.lines.specs.Line.{dec, spaced, numbers, line_long}
+use Rattle.lines.specs.Line.{dec, numbers, line_long}
+use Rattle.lines.proofs.Numbers.{numbers-append}
 use Rattle.lines.proofs.Writing.{numbers-none, numbers-one, long_ok}
 use Rattle.lengths.specs.Length.{within, Takes}
 
@@ -31,13 +32,8 @@ module _ (a b n : ℕ) where
   takes-within k p q t = rw (le-leb a n p, lt-ltb n b q) t
 
 -- ---- numbers one after the other
-numbers-join : (l m : List ℕ) → numbers (l ++ m) ≡ numbers l ++ numbers m
-unfolding numbers
-numbers-join [] m = refl
-numbers-join (x ∷ l) m = rw (numbers-join l m) (sym (append_assoc (spaced x) (numbers l) (numbers m)))
-
 pub long-join : (l m : List ℕ) → length (numbers (l ++ m)) ≡ length (numbers l) + length (numbers m)
-long-join l m = ap length (numbers-join l m) ∙ length-append (numbers l) (numbers m)
+long-join l m = ap length (numbers-append l m) ∙ length-append (numbers l) (numbers m)
 
 -- ---- a list measured from s on: `long` is counted, and `rest` is still to be counted
 pub record Measured (s : ℕ) (whole : List ℕ) (long : ℕ) (rest : List ℕ) : Type 0 where

@@ -33,9 +33,9 @@ fn word_length(word: u64, base: u32) -> usize
     let mut w = word;
     let mut long = 0;
     while w != 0 {
-        long += number::number_length((base as u64) + (u64::trailing_zeros(w) as u64));
+        long += number::number_length((base as u64) + (w.trailing_zeros() as u64));
         // The lowest one goes out (01: never by trying 64 bits); the library has no iterator over a word's ones.
-        w = w & (w - 1);
+        w &= w - 1;
     }
     long
 }
