@@ -6,11 +6,7 @@ mod print;
 mod shows;
 
 fn main() {
-    builds::no_rows();
-    builds::no_ones();
-    builds::last_place();
-    builds::one_column();
-    builds::full();
+    builds::edges();
     builds::rebuilt();
     shows::lists();
     shows::short_list();

@@ -7,19 +7,8 @@ pub fn number(n: u64) {
 }
 
 // Each number of the list.
-pub fn numbers(list: &[u32]) {
-    let mut i = 0;
-    while i < list.len() {
-        number(list[i] as u64);
-        i += 1;
-    }
-}
-
-// Each number of the list.
-pub fn long_numbers(list: &[u64]) {
-    let mut i = 0;
-    while i < list.len() {
-        number(list[i]);
-        i += 1;
+pub fn numbers<T: Copy + Into<u64>>(list: &[T]) {
+    for n in list {
+        number((*n).into());
     }
 }

@@ -18,10 +18,9 @@ fn gets(starts: &[u64], entries: &[u32], z: usize)
 pub fn lists() {
     let starts: [u64; 6] = [0, 2, 2, 5, 7, 0];
     let entries: [u32; 9] = [0, 2, 0, 1, 4, 2, 4, 0, 0];
-    gets(&starts, &entries, 0);
-    gets(&starts, &entries, 1);
-    gets(&starts, &entries, 2);
-    gets(&starts, &entries, 3);
+    for z in 0..4 {
+        gets(&starts, &entries, z);
+    }
 }
 
 // The rows of a list by their logical numbers: how many, how many were written, and the answers, of which those not written stay 77.
@@ -64,23 +63,21 @@ const TURNED: [u32; 40] = [
 
 // The long list through the map: by a sweep.
 pub fn long_list() {
-    let list = LIST;
-    let turned = TURNED;
-    shows(b"long list:", &list, &turned, &turned, 40, 4, 12);
+    shows(b"long list:", &LIST, &TURNED, &TURNED, 40, 4, 12);
     shows(
         b"long list, b past h:",
-        &list,
-        &turned,
-        &turned,
+        &LIST,
+        &TURNED,
+        &TURNED,
         40,
         33,
         4000000000,
     );
     shows(
         b"long list, empty range:",
-        &list,
-        &turned,
-        &turned,
+        &LIST,
+        &TURNED,
+        &TURNED,
         40,
         9,
         9,

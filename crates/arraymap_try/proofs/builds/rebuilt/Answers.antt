@@ -1,6 +1,7 @@
 -- `arraymap_try::builds::rebuilt` meets its contract. Assumes nothing.
 use mathlib.Core.Path.{refl}
 use Rattle.laws.specs.Parts.{part, row_of}
+use Rattle.std.proofs.Common.{lit<}
 use Rattle.laws.specs.Plain.{sum_of}
 use Rattle.laws.specs.Tests.{all_below, zero_at, zero_from}
 use Rattle.arraymap_try.proofs.Computed.{row_test, rows_test, can-build}
@@ -10,4 +11,4 @@ use Rattle.arraymap_try.proofs.builds.rebuilt.Goals as goal
 
 pub builds-requires : goal.builds-requires
 unfolding rows_test row_test all_below ok_from row_of part ones_of sum_of zero_from zero_at
-builds-requires c = can-build _ _ _ _ _ _ _ _ refl refl refl refl refl refl
+builds-requires c = (lit< tt, (lit< tt, can-build _ _ _ _ _ _ _ _ refl refl refl refl refl refl))
