@@ -18,12 +18,11 @@ use lib.ListN.{length, get_or, take, drop, drop_of_length-le}
 use lib.Seq.{drop-cons, take_all, get_or-take, length-take-le}
 use borrow.Author.Tests.{eq-eqb, ne_eqb, lt-ltb, le-ltb, le-leb, lt-leb}
 use Rattle.laws.specs.Rows.{member, Rising}
-use Rattle.laws.specs.Parts.{row_of}
 use Rattle.laws.specs.Tests.{all_below}
 use Rattle.laws.proofs.Bools.{and-stop, and_last, or-late}
 use Rattle.laws.proofs.Members.{member-at}
 use Rattle.laws.proofs.Passes.{all_of, all-fails}
-use Rattle.arraymap.specs.Index.{list_at, Rows, RowOk}
+use Rattle.arraymap.specs.Index.{list_at, RowOk}
 use Rattle.arraymap.specs.Show.{CanList}
 use Rattle.arraymap.specs.Check.{up_at, mark_at, ok_from, list_ok, listed_at, row_listed, holds_at, exact_at}
 use Rattle.arraymap.specs.Steps.{Span, Lists, Below}
@@ -132,14 +131,7 @@ module _ (S E : List ℕ) (z : ℕ) (l : List ℕ) (q : l ≡ list_at S E z) whe
   unfolding listed_at
   listed-is row y j r b e s t = rw (q, e) at (sym s ∙ t)
 
--- ---- rows_listed, list_exact: the row that was handed out is row y
-module _ (slots counts : List ℕ) (h k m : ℕ) (R : Rows slots counts h k m) (y : ℕ) (l : y < h) (row : List ℕ) (q : row ≡ row_of slots counts k y) where
-  pub row_ok : RowOk row m
-  row_ok = rw q (R.row y l)
-
-  pub row-rising : Rising row
-  row-rising = record { rises = row_ok.rises }
-
+-- ---- row_listed, list_exact: the row and the list that were handed out are those
 pub row-listed-is : (S E : List ℕ) (rows : ℕ → List ℕ) (y : ℕ) (row : List ℕ) (r : Bool) → row ≡ rows y
     → r ≡ all_below (length row) (listed_at S E row y) → r ≡ row_listed S E rows y
 unfolding row_listed
