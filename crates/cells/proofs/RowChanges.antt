@@ -2,17 +2,17 @@
 use mathlib.Core.Path.{◌≡◌, sym, ap, ◌∙◌}
 use mathlib.Core.Bool.{Bool, true, false, not}
 use mathlib.Core.List.{List}
-use Prim.Native.Nat.{ℕ, suc, ◌+◌, ◌-◌, ◌*◌, ◌≤◌, ◌<◌}
+use Prim.Native.Nat.{ℕ, suc, ◌*◌, ◌≤◌, ◌<◌}
 use native.Mathlib.Omega.{arith}
 use lib.Dec.{leb}
-use lib.ListN.{length, get_or, take, drop, set}
+use lib.ListN.{length, get_or, set}
 use borrow.Author.Tests.{le-leb, lt-leb, not-true, not-false}
 use Rattle.laws.specs.Plain.{pick}
 use Rattle.laws.specs.Rows.{member, From, Rising, take_out}
 use Rattle.laws.specs.Parts.{part, row_of}
 use Rattle.laws.proofs.Bools.{by-test}
 use Rattle.laws.proofs.Members.{put-length, take-length}
-use Rattle.laws.proofs.Parts.{part-is, part_length}
+use Rattle.laws.proofs.Parts.{part_length}
 use Rattle.sparse_vec.specs.Row.{put_row, CanInsert}
 use Rattle.model.specs.Change.{set_row}
 use Rattle.cells.specs.Cells.{RowKept, CanSet}
@@ -37,8 +37,8 @@ module _ (slots counts : List ℕ) (y k : ℕ) (kept : RowKept slots counts y k)
   unfolding row_of
   rises = kept.row.rising.rises
 
-  pub row-rises : Rising (take ((y * k + get_or counts y 0) - y * k) (drop (y * k) slots))
-  row-rises = rw (part-is slots (y * k) (get_or counts y 0)) kept.row.rising
+  pub row-rises : Rising (part slots (y * k) (get_or counts y 0))
+  row-rises = kept.row.rising
 
   module _ (z : ℕ) (v : Bool) where
     -- taking out needs no room
@@ -54,10 +54,10 @@ module _ (slots counts : List ℕ) (y k : ℕ) (kept : RowKept slots counts y k)
           (λ t. rw t (sym (le-leb (get_or counts y 0) k (omega arith))))
           (λ n. rw n (sym (le-leb (suc (get_or counts y 0)) k (omega arith)))))
 
-      pub room-same : (r : Bool) → r ≡ member z (take ((y * k + get_or counts y 0) - y * k) (drop (y * k) slots)) → k ≤ get_or counts y 0
+      pub room-same : (r : Bool) → r ≡ member z (part slots (y * k) (get_or counts y 0)) → k ≤ get_or counts y 0
           → r ≡ leb (length (set_row v z (row_of slots counts k y))) k
       unfolding row_of
-      room-same r h full = h ∙ rw (part-is slots (y * k) (get_or counts y 0), put-long) (by-test (member z (part slots (y * k) (get_or counts y 0)))
+      room-same r h full = h ∙ rw put-long (by-test (member z (part slots (y * k) (get_or counts y 0)))
           (λ t. rw t (sym (le-leb (get_or counts y 0) k kept.row.room)))
           (λ n. rw n (sym (lt-leb (suc (get_or counts y 0)) k (omega arith)))))
 

@@ -12,8 +12,7 @@ use Rattle.laws.specs.Rows.{member, Rising}
 use Rattle.laws.specs.Parts.{part, row_of}
 use Rattle.laws.proofs.Parts.{part_length, part_at}
 use Rattle.sparse_vec.specs.Row.{CanAdd, row_sum, sum_in, added_to, put_row}
-use Rattle.sparse_vec.specs.declared.Sum.{Sum}
-use Rattle.sparse_vec.specs.declared.Sum.TheVariants.{Done, Full}
+use Rattle.std.specs.Prelude.{Option, Some, None}
 use Rattle.table.specs.Step.{not_single}
 use Rattle.cells.specs.Added.{CanSum, CanAddLists, CanSpend, sum_of_rows, not_one, sum_refused}
 
@@ -101,18 +100,18 @@ module _ (slots counts : List ℕ) (k y x : ℕ) (can : CanSum slots counts k y 
       sum-full e = rw (sym r-is ∙ single, fits-is ∙ e)
 
     -- ---- the rows added
-    module _ (all : Bool) (a : all ≡ true) (room : all ≡ true → length (sum_of_rows slots counts k y x) ≤ k) (r : Sum) (r-is : r ≡ sum_in k (row_sum slots (y * k) n (x * k) m)) where
+    module _ (all : Bool) (a : all ≡ true) (room : all ≡ true → length (sum_of_rows slots counts k y x) ≤ k) (r : Option ℕ) (r-is : r ≡ sum_in k (row_sum slots (y * k) n (x * k) m)) where
       fits : leb (length (row_sum slots (y * k) n (x * k) m)) k ≡ true
       fits = rw sum_is (le-leb (length (sum_of_rows slots counts k y x)) k (room a))
 
-      is-done : r ≡ Done (length (sum_of_rows slots counts k y x))
+      is-done : r ≡ Some (length (sum_of_rows slots counts k y x))
       unfolding sum_in
       is-done = r-is ∙ rw (fits, sum_is)
 
-      pub never-full : r ≡ Full → ⊥
+      pub never-full : r ≡ None → ⊥
       never-full e = let z : ◌≡◌ {A = ℕ} 0 1 = cc (is-done) in omega arith
 
-      pub new-count : (len : ℕ) → r ≡ Done len → len ≡ length (sum_of_rows slots counts k y x)
+      pub new-count : (len : ℕ) → r ≡ Some len → len ≡ length (sum_of_rows slots counts k y x)
       new-count len e = cc (is-done)
 
       pub new-slots : (S : List ℕ) → S ≡ added_to slots (y * k) k (row_sum slots (y * k) n (x * k) m)
@@ -120,7 +119,7 @@ module _ (slots counts : List ℕ) (k y x : ℕ) (can : CanSum slots counts k y 
       unfolding added_to
       new-slots S e = e ∙ rw (fits, sum_is, a)
 
-      pub lists-done : (len : ℕ) → r ≡ Done len → (S : List ℕ) → S ≡ added_to slots (y * k) k (row_sum slots (y * k) n (x * k) m)
+      pub lists-done : (len : ℕ) → r ≡ Some len → (S : List ℕ) → S ≡ added_to slots (y * k) k (row_sum slots (y * k) n (x * k) m)
           → (S ≡ pick all (put_row slots (y * k) k (sum_of_rows slots counts k y x)) slots)
           × (set counts y len ≡ pick all (set counts y (length (sum_of_rows slots counts k y x))) counts)
       lists-done len e S f = (new-slots S f, rw (a, new-count len e))

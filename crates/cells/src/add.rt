@@ -11,8 +11,8 @@ ghost use Rattle.store_head.specs.Refused.{refusal_of};
 ghost use Rattle.cells.specs.Added.{adding, CanSum, CanAddLists, CanSpend, sum_of_rows, not_one, sum_refused};
 
 use permutation::LogicalRow;
-use sparse_vec::Sum;
-use store_head::{Changed, Numbers, places, refusals};
+use sparse_vec::Row;
+use store_head::{Changed, Numbers, refusals};
 
 // Where row `r` is kept, as a place.
 fn home(row_homes: &[u32], r: u32) -> usize
@@ -21,14 +21,6 @@ fn home(row_homes: &[u32], r: u32) -> usize
 {
     let y = permutation::home_row(row_homes, LogicalRow(r));
     y.0 as usize
-}
-
-// How many numbers home row `y` lists.
-fn count_of(counts: &[u16], y: usize) -> usize
-    requires { y < length counts.now }
-    ensures { result ≡ get_or counts.now y 0 }
-{
-    places::wide(counts[y])
 }
 
 // Whether a start is neither 0 nor the first tail column.
@@ -49,14 +41,17 @@ fn not_one(slots: &[u16], counts: &[u16], on: bool, k: usize, y: usize, x: usize
     if !on {
         return false;
     }
-    if count_of(counts, x) != 1 {
+    if counts[x] != 1 {
         return true;
     }
     let at = x * k;
     let z = slots[at];
-    let from = y * k;
-    let n = count_of(counts, y);
-    !sparse_vec::get(&slots[from..from + n], z)
+    let to = Row {
+        at: y * k,
+        len: counts[y] as usize,
+        cap: k,
+    };
+    !sparse_vec::get(to.numbers(slots), z)
 }
 
 // The refusal of a sum of rows `y` and `x`: 10, then 12, and 0 where there is none.
@@ -67,9 +62,17 @@ fn refuse_sum(slots: &[u16], counts: &[u16], on: bool, k: usize, y: usize, x: us
     if not_one(slots, counts, on, k, y, x) {
         return refusals::SINGLE;
     }
-    let n = count_of(counts, y);
-    let m = count_of(counts, x);
-    if sparse_vec::sum_fits(slots, y * k, n, x * k, m, k) {
+    let to = Row {
+        at: y * k,
+        len: counts[y] as usize,
+        cap: k,
+    };
+    let from = Row {
+        at: x * k,
+        len: counts[x] as usize,
+        cap: k,
+    };
+    if sparse_vec::sum_fits(slots, to, from) {
         return 0;
     }
     refusals::SLOTS
@@ -86,8 +89,7 @@ fn spend(slots: &[u16], marks: &mut [u8], all: bool, on: bool, k: usize, x: usiz
     if !on {
         return;
     }
-    let at = x * k;
-    let z = places::wide(slots[at]);
+    let z = slots[x * k] as usize;
     marks[z] = 1;
 }
 
@@ -99,9 +101,17 @@ fn add_lists(slots: &mut [u16], counts: &mut [u16], all: bool, k: usize, y: usiz
     if !all {
         return;
     }
-    let n = count_of(counts, y);
-    let m = count_of(counts, x);
-    let Sum::Done(len) = sparse_vec::add_assign(slots, y * k, n, x * k, m, k) else {
+    let to = Row {
+        at: y * k,
+        len: counts[y] as usize,
+        cap: k,
+    };
+    let from = Row {
+        at: x * k,
+        len: counts[x] as usize,
+        cap: k,
+    };
+    let Some(len) = sparse_vec::add_assign(slots, to, from) else {
         return;
     };
     counts[y] = len as u16;

@@ -12,6 +12,7 @@ ghost use Rattle.store_head.specs.Refused.{refusal_of};
 ghost use Rattle.cells.specs.Cells.{place, RowKept, CanSet};
 
 use permutation::LogicalRow;
+use sparse_vec::Row;
 use store_head::{Changed, Numbers, places, refusals};
 
 // Whether the row has room for what it holds after home column `z` is put in, or taken out where `v` is false.
@@ -26,19 +27,23 @@ fn has_room(slots: &[u16], counts: &[u16], y: usize, k: usize, z: u16, v: bool) 
     if len < k {
         return true;
     }
-    let at = y * k;
-    sparse_vec::get(&slots[at..at + len], z)
+    let row = Row {
+        at: y * k,
+        len,
+        cap: k,
+    };
+    sparse_vec::get(row.numbers(slots), z)
 }
 
-// Puts `z` into the list at `at`, or takes it out, and answers the list's length.
-fn change_list(slots: &mut [u16], at: usize, len: usize, k: usize, z: u16, v: bool) -> usize
-    requires { CanSet slots.old at len k z v }
-    ensures { (result ≡ length (set_row v z (part slots.old at len))) × (slots.new ≡ put_row slots.old at k (set_row v z (part slots.old at len))) }
+// Puts `z` into the row, or takes it out, and answers how many numbers it then has.
+fn change_list(slots: &mut [u16], row: Row, z: u16, v: bool) -> usize
+    requires { CanSet slots.old row.at row.len row.cap z v }
+    ensures { (result ≡ length (set_row v z (part slots.old row.at row.len))) × (slots.new ≡ put_row slots.old row.at row.cap (set_row v z (part slots.old row.at row.len))) }
 {
     if v {
-        sparse_vec::insert(slots, at, len, k, z)
+        sparse_vec::insert(slots, row, z)
     } else {
-        sparse_vec::remove(slots, at, len, k, z)
+        sparse_vec::remove(slots, row, z)
     }
 }
 
@@ -48,8 +53,12 @@ fn change_row(slots: &mut [u16], counts: &mut [u16], y: usize, k: usize, z: u16,
     requires y_len_bound { length (set_row v z (row_of slots.old counts.old k y)) ≤ k }
     ensures { (slots.new ≡ put_row slots.old (y * k) k (set_row v z (row_of slots.old counts.old k y))) × (counts.new ≡ set counts.old y (length (set_row v z (row_of slots.old counts.old k y)))) }
 {
-    let len = counts[y] as usize;
-    let more = change_list(slots, y * k, len, k, z, v);
+    let row = Row {
+        at: y * k,
+        len: counts[y] as usize,
+        cap: k,
+    };
+    let more = change_list(slots, row, z, v);
     counts[y] = more as u16;
 }
 

@@ -71,7 +71,7 @@ pub fn enable_column_access_acceleration_in(
     let m = head.made as usize;
     // zero where the index was off
     let used = starts[m] as usize;
-    lent::clear_u8(marks, 0, m);
+    lent::clear(marks, 0, m);
     arraymap::build(slots, counts, h, k, m, used, starts, entries);
     head.on = true;
     Changed::Done(head)
@@ -97,9 +97,9 @@ pub fn disable_column_access_acceleration_in(
     let made = head.made as usize;
     // zero where the index was off
     let used = starts[made] as usize;
-    lent::clear_u8(marks, 0, made);
-    lent::clear_u32(entries, 0, used);
-    lent::clear_u64(starts, 0, made + 1);
+    lent::clear(marks, 0, made);
+    lent::clear(entries, 0, used);
+    lent::clear(starts, 0, made + 1);
     head.on = false;
     Changed::Done(head)
 }

@@ -60,11 +60,11 @@ fn clear_rows(slots: &mut [u16], counts: &mut [u16], words: &mut [u64])
     ensures { (slots.new ≡ zeros (length slots.old)) × ((counts.new ≡ zeros (length counts.old)) × (words.new ≡ zeros (length words.old))) }
 {
     let a = slots.len();
-    lent::clear_u16(slots, 0, a);
+    lent::clear(slots, 0, a);
     let b = counts.len();
-    lent::clear_u16(counts, 0, b);
+    lent::clear(counts, 0, b);
     let c = words.len();
-    lent::clear_u64(words, 0, c);
+    lent::clear(words, 0, c);
 }
 
 // The index becomes zero.
@@ -72,11 +72,11 @@ fn clear_index(marks: &mut [u8], starts: &mut [u64], entries: &mut [u32])
     ensures { (marks.new ≡ zeros (length marks.old)) × ((starts.new ≡ zeros (length starts.old)) × (entries.new ≡ zeros (length entries.old))) }
 {
     let a = marks.len();
-    lent::clear_u8(marks, 0, a);
+    lent::clear(marks, 0, a);
     let b = starts.len();
-    lent::clear_u64(starts, 0, b);
+    lent::clear(starts, 0, b);
     let c = entries.len();
-    lent::clear_u32(entries, 0, c);
+    lent::clear(entries, 0, c);
 }
 
 // The refusal of MAKE, and 0 where there is none: 2 outside the limits, 3 where a buffer is too short. The numbers in the buffers count for nothing.
@@ -167,10 +167,10 @@ pub fn new(
     }
     clear_rows(slots, counts, words);
     clear_index(marks, starts, entries);
-    permutation::identity_rows(row_homes, h as usize);
-    permutation::identity_rows(row_logicals, h as usize);
-    permutation::identity_columns(column_homes, w as usize);
-    permutation::identity_columns(column_logicals, w as usize);
+    permutation::make_identity(row_homes, h as usize);
+    permutation::make_identity(row_logicals, h as usize);
+    permutation::make_identity(column_homes, w as usize);
+    permutation::make_identity(column_logicals, w as usize);
     Changed::Done(Numbers {
         h: h,
         w: w,

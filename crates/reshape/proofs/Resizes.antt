@@ -17,7 +17,7 @@ use Rattle.sparse_vec.specs.Row.{put_row, kept_below}
 use Rattle.sparse_vec.specs.Calls.{CanRetain}
 use Rattle.sparse_vec.proofs.Keeping.{kept-length}
 use Rattle.permutation.specs.Maps.{CanSwap, swapped, turned}
-use Rattle.tail.specs.Runs.{Apart}
+use Rattle.lent.specs.Stretch.{Apart}
 use Rattle.table.specs.declared.Shape.{Shape}
 use Rattle.table.specs.declared.Op.TheVariants.{Resize}
 use Rattle.table.specs.Refusals.{refused, done}

@@ -49,8 +49,8 @@ module _ (u : Store) (v : WellFormed u) where
         in_map = omega (arith, v.maps.rows.f-long);
         lists = λ ne. rw k-is (record {
           places = record {
-            fit-a = omega (arith, row-end (home_row u r) u.head.h u.head.slots hy, v.limits.entries);
-            fit-b = omega (arith, row-end r u.head.h u.head.slots hr, v.limits.entries);
+            first = omega (arith, row-end (home_row u r) u.head.h u.head.slots hy, v.limits.entries);
+            second = omega (arith, row-end r u.head.h u.head.slots hr, v.limits.entries);
             apart = rows_apart u.head.slots (home_row u r) r ne;
           };
           y-in = omega (arith, v.limits.counts);

@@ -1,9 +1,9 @@
 -- RESIZE: its places, and what its inner functions ask and tell of the rows. Assumes nothing.
 use Rattle.std.specs.Prelude.{◌≡◌, List, [], ℕ, ◌*◌, ◌≤◌, ◌<◌, length, get_or}
 use Rattle.laws.specs.Words.{words_for}
-use Rattle.sparse_vec.specs.Calls.{CanExchange, CanRetain}
+use Rattle.sparse_vec.specs.Calls.{CanRetain}
 use Rattle.permutation.specs.Maps.{CanSwap}
-use Rattle.tail.specs.Runs.{Apart}
+use Rattle.lent.specs.Stretch.{Apart}
 use Rattle.table.specs.declared.Shape.{Shape}
 use Rattle.model.specs.Store as model
 use Rattle.store_head.specs.declared.Numbers.{Numbers}
@@ -31,7 +31,7 @@ pub record RowsOf (u : model.Store) (slots counts homes logicals words : List �
 
 -- the k places of home rows y and x lie apart, and both have a count
 pub record CanTrade (slots counts : List ℕ) (k y x : ℕ) : Type 0 where
-  pub places : CanExchange slots (y * k) (x * k) k
+  pub places : Apart slots (y * k) (x * k) k
   pub y-in : y < length counts
   pub x-in : x < length counts
 

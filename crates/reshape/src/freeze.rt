@@ -14,6 +14,7 @@ ghost use Rattle.store_head.specs.Told.{changed_told};
 ghost use Rattle.store_head.specs.Refused.{refusal_of};
 ghost use Rattle.reshape.specs.Frozen.{freezing, CanTake};
 
+use sparse_vec::Row;
 use store_head::{Changed, Numbers, places, refusals};
 
 // How many words `h` rows of one column more have.
@@ -30,12 +31,15 @@ fn take_out(slots: &mut [u16], counts: &mut [u16], k: usize, y: usize, z: u16) -
     requires { CanTake slots.old counts.old k y }
     ensures { (result ≡ member z (row_of slots.old counts.old k y)) × ((slots.new ≡ pick (member z (row_of slots.old counts.old k y)) (put_row slots.old (y * k) k (take_out z (row_of slots.old counts.old k y))) slots.old) × (counts.new ≡ pick (member z (row_of slots.old counts.old k y)) (set counts.old y (length (take_out z (row_of slots.old counts.old k y)))) counts.old)) }
 {
-    let at = y * k;
-    let n = places::wide(counts[y]);
-    if !sparse_vec::get(&slots[at..at + n], z) {
+    let row = Row {
+        at: y * k,
+        len: counts[y] as usize,
+        cap: k,
+    };
+    if !sparse_vec::get(row.numbers(slots), z) {
         return false;
     }
-    let len = sparse_vec::remove(slots, at, n, k, z);
+    let len = sparse_vec::remove(slots, row, z);
     counts[y] = len as u16;
     true
 }

@@ -4,7 +4,7 @@ ghost use Rattle.laws.specs.Parts.{row_of};
 ghost use Rattle.laws.specs.Words.{words_for};
 ghost use Rattle.sparse_vec.specs.Row.{put_row, kept_below};
 ghost use Rattle.permutation.specs.Maps.{swapped};
-ghost use Rattle.tail.specs.Runs.{Apart};
+ghost use Rattle.lent.specs.Stretch.{Apart};
 ghost use Rattle.table.specs.declared.Op.TheVariants.{Resize};
 ghost use Rattle.model.specs.WellFormed.{WellFormed};
 ghost use Rattle.model.specs.Change.{exchanged, bring_home, brought_home, drop_rows, kept_columns};
@@ -15,6 +15,7 @@ ghost use Rattle.store_head.specs.Refused.{refusal_of};
 ghost use Rattle.reshape.specs.Resized.{shape, rows_over, RowsOf, ListsOf, CanTrade, CanHome, CanDrop, CanKeep};
 
 use permutation::{HomeRow, LogicalRow};
+use sparse_vec::Row;
 use store_head::{Changed, Numbers, places, refusals};
 
 // Whether the last columns that go would take a part of the tail and leave a part: "0 < columns dropped < n".
@@ -34,7 +35,7 @@ fn trade_lists(slots: &mut [u16], counts: &mut [u16], k: usize, y: usize, x: usi
     requires { CanTrade slots.old counts.old k y x }
     ensures { (slots.new ≡ exchanged slots.old (y * k) (x * k) k) × (counts.new ≡ swapped counts.old y x) }
 {
-    sparse_vec::exchange(slots, y * k, x * k, k);
+    lent::exchange(slots, y * k, x * k, k);
     let n = counts[y];
     counts[y] = counts[x];
     counts[x] = n;
@@ -46,7 +47,7 @@ fn trade_words(words: &mut [u64], n: u32, y: usize, x: usize)
     ensures { words.new ≡ exchanged words.old (y * words_for n) (x * words_for n) (words_for n) }
 {
     let k = tail::words_for(n);
-    tail::exchange(words, y * k, x * k, k);
+    lent::exchange(words, y * k, x * k, k);
 }
 
 // Home row `y` keeps of its list the columns whose logical numbers are below `w`.
@@ -61,8 +62,12 @@ fn keep_row(
     requires { CanKeep slots.old counts.old column_logicals.now k y }
     ensures { (slots.new ≡ put_row slots.old (y * k) k (kept_below column_logicals.now w (row_of slots.old counts.old k y))) × (counts.new ≡ set counts.old y (length (kept_below column_logicals.now w (row_of slots.old counts.old k y)))) }
 {
-    let n = places::wide(counts[y]);
-    let kept = sparse_vec::retain(slots, y * k, n, k, column_logicals, w);
+    let row = Row {
+        at: y * k,
+        len: counts[y] as usize,
+        cap: k,
+    };
+    let kept = sparse_vec::retain(slots, row, column_logicals, w);
     counts[y] = kept as u16;
 }
 
@@ -153,11 +158,11 @@ fn drop_rows(
     let to = places::place(head.h);
     let cap = places::place(head.slots);
     let size = tail::words_for(head.n);
-    lent::clear_u64(words, from * size, to * size);
-    lent::clear_u16(slots, from * cap, to * cap);
-    lent::clear_u16(counts, from, to);
-    lent::clear_u32(row_homes, from, to);
-    lent::clear_u32(row_logicals, from, to);
+    lent::clear(words, from * size, to * size);
+    lent::clear(slots, from * cap, to * cap);
+    lent::clear(counts, from, to);
+    lent::clear(row_homes, from, to);
+    lent::clear(row_logicals, from, to);
 }
 
 // Every row keeps the columns below `w`.
@@ -246,7 +251,7 @@ fn shrink(
         words,
         w,
     );
-    lent::clear_u64(words, 0, places::place(h) * tail::words_for(head.n));
+    lent::clear(words, 0, places::place(h) * tail::words_for(head.n));
     head.w = w;
     head.n = 0;
     Changed::Done(head)

@@ -10,7 +10,7 @@ use store_head::Numbers;
 fn off_ok(starts: &[u64], entries: &[u32], marks: &[u8]) -> bool
     ensures { result ≡ off_ok starts.now entries.now marks.now }
 {
-    lent::rest_zero_u64(starts, 0) & lent::rest_zero_u32(entries, 0) & lent::rest_zero_u8(marks, 0)
+    lent::rest_zero(starts, 0) & lent::rest_zero(entries, 0) & lent::rest_zero(marks, 0)
 }
 
 // Whether the index is as the head's switch says.

@@ -16,8 +16,8 @@ pub fn maps_ok(
 ) -> bool
     ensures { result ≡ maps_ok (head_of d) row_homes.now row_logicals.now column_homes.now column_logicals.now }
 {
-    permutation::rows_inverse(row_homes, row_logicals, d.h as usize)
-        & permutation::columns_inverse(column_homes, column_logicals, d.made as usize)
+    permutation::are_inverse(row_homes, row_logicals, d.h as usize)
+        & permutation::are_inverse(column_homes, column_logicals, d.made as usize)
 }
 
 // Whether what the head's numbers do not span is zero, to the end of each buffer. (The index's buffers are tested with the index.)
@@ -36,11 +36,11 @@ pub fn unused_ok(
 {
     let h = d.h as usize;
     let made = d.made as usize;
-    lent::rest_zero_u16(slots, h * d.slots as usize)
-        & lent::rest_zero_u16(counts, h)
-        & lent::rest_zero_u32(row_homes, h)
-        & lent::rest_zero_u32(row_logicals, h)
-        & lent::rest_zero_u16(column_homes, made)
-        & lent::rest_zero_u16(column_logicals, made)
-        & lent::rest_zero_u64(words, h * tail::words_for(d.n))
+    lent::rest_zero(slots, h * d.slots as usize)
+        & lent::rest_zero(counts, h)
+        & lent::rest_zero(row_homes, h)
+        & lent::rest_zero(row_logicals, h)
+        & lent::rest_zero(column_homes, made)
+        & lent::rest_zero(column_logicals, made)
+        & lent::rest_zero(words, h * tail::words_for(d.n))
 }

@@ -19,7 +19,7 @@ fn row_ok(slots: &[u16], counts: &[u16], logicals: &[u16], k: usize, edge: u32, 
     if !sparse_vec::sound(&slots[at..at + count], logicals, edge) {
         return false;
     }
-    lent::rest_zero_u16(&slots[at..at + k], count)
+    lent::rest_zero(&slots[at..at + k], count)
 }
 
 // Whether each home row is right.

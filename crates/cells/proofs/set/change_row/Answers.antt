@@ -6,8 +6,8 @@ use Rattle.cells.proofs.set.change_row.Goals as goal
 pub bounds-counts-y : goal.bounds-counts-y
 bounds-counts-y c = c.requires.row_kept.counted
 
-pub overflow_mul-y : goal.overflow_mul-y
-overflow_mul-y c = omega (arith, c.requires.row_kept.row.fits)
+pub overflow_mul-row : goal.overflow_mul-row
+overflow_mul-row c = omega (arith, c.requires.row_kept.row.fits)
 
 pub change_list-more-requires : goal.change_list-more-requires
 change_list-more-requires c = row-can _ _ _ _ c.requires.row_kept c.args.z c.args.v c.requires.y_len_bound

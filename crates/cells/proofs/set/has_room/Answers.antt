@@ -14,7 +14,7 @@ pub returns-then-len-k : goal.returns-then-len-k
 returns-then-len-k c = room-left _ _ _ _ c.requires c.args.z c.args.v (ap not c.if-not-v.false) c.if-len-k.true
 
 pub get-requires : goal.get-requires
-get-requires c = row-rises _ _ _ _ c.requires
+get-requires c = rw c.numbers.ensures (row-rises _ _ _ _ c.requires)
 
 pub returns : goal.returns
-returns c = room-same _ _ _ _ c.requires c.args.z c.args.v (ap not c.if-not-v.false) _ c.get.ensures c.if-len-k.false
+returns c = room-same _ _ _ _ c.requires c.args.z c.args.v (ap not c.if-not-v.false) _ (rw c.numbers.ensures at c.get.ensures) c.if-len-k.false

@@ -4,4 +4,4 @@ use Rattle.store_head.proofs.Clears.{whole-clear}
 use Rattle.making.proofs.make.clear_rows.Goals as goal
 
 pub returns : goal.returns
-returns c = (c.clear_u16.ensures ∙ whole-clear _, (c.clear_u16-2.ensures ∙ whole-clear _, c.clear_u64.ensures ∙ whole-clear _))
+returns c = (c.clear.ensures ∙ whole-clear _, (c.clear-2.ensures ∙ whole-clear _, c.clear-3.ensures ∙ whole-clear _))

@@ -18,17 +18,17 @@ lent c = store_of c.args.head c.args.slots.now c.args.counts.now c.args.row_home
 pub returns-then-no-ne0 : goal.returns-then-no-ne0
 returns-then-no-ne0 c = make-refused _ _ _ c.refuse_make-no.ensures c.if-no-ne0.true
 
-pub identity_rows-requires : goal.identity_rows-requires
-identity_rows-requires c = rows-number _ _ (made-can (asked (goal.at.identity_rows-requires c).Start) (lent (goal.at.identity_rows-requires c).Start) (sym c.if-no-ne0.false ∙ c.refuse_make-no.ensures)).row-homes (made-can (asked (goal.at.identity_rows-requires c).Start) (lent (goal.at.identity_rows-requires c).Start) (sym c.if-no-ne0.false ∙ c.refuse_make-no.ensures)).height
+pub make_identity-requires : goal.make_identity-requires
+make_identity-requires c = rows-number _ _ (made-can (asked (goal.at.make_identity-requires c).Start) (lent (goal.at.make_identity-requires c).Start) (sym c.if-no-ne0.false ∙ c.refuse_make-no.ensures)).row-homes (made-can (asked (goal.at.make_identity-requires c).Start) (lent (goal.at.make_identity-requires c).Start) (sym c.if-no-ne0.false ∙ c.refuse_make-no.ensures)).height
 
-pub identity_rows-requires-2 : goal.identity_rows-requires-2
-identity_rows-requires-2 c = rows-number _ _ (made-can (asked (goal.at.identity_rows-requires-2 c).Start) (lent (goal.at.identity_rows-requires-2 c).Start) (sym c.if-no-ne0.false ∙ c.refuse_make-no.ensures)).row-logicals (made-can (asked (goal.at.identity_rows-requires-2 c).Start) (lent (goal.at.identity_rows-requires-2 c).Start) (sym c.if-no-ne0.false ∙ c.refuse_make-no.ensures)).height
+pub make_identity-requires-2 : goal.make_identity-requires-2
+make_identity-requires-2 c = rows-number _ _ (made-can (asked (goal.at.make_identity-requires-2 c).Start) (lent (goal.at.make_identity-requires-2 c).Start) (sym c.if-no-ne0.false ∙ c.refuse_make-no.ensures)).row-logicals (made-can (asked (goal.at.make_identity-requires-2 c).Start) (lent (goal.at.make_identity-requires-2 c).Start) (sym c.if-no-ne0.false ∙ c.refuse_make-no.ensures)).height
 
-pub identity_columns-requires : goal.identity_columns-requires
-identity_columns-requires c = columns-number _ _ (made-can (asked (goal.at.identity_columns-requires c).Start) (lent (goal.at.identity_columns-requires c).Start) (sym c.if-no-ne0.false ∙ c.refuse_make-no.ensures)).column-homes (made-can (asked (goal.at.identity_columns-requires c).Start) (lent (goal.at.identity_columns-requires c).Start) (sym c.if-no-ne0.false ∙ c.refuse_make-no.ensures)).width
+pub make_identity-requires-3 : goal.make_identity-requires-3
+make_identity-requires-3 c = columns-number _ _ (made-can (asked (goal.at.make_identity-requires-3 c).Start) (lent (goal.at.make_identity-requires-3 c).Start) (sym c.if-no-ne0.false ∙ c.refuse_make-no.ensures)).column-homes (made-can (asked (goal.at.make_identity-requires-3 c).Start) (lent (goal.at.make_identity-requires-3 c).Start) (sym c.if-no-ne0.false ∙ c.refuse_make-no.ensures)).width
 
-pub identity_columns-requires-2 : goal.identity_columns-requires-2
-identity_columns-requires-2 c = columns-number _ _ (made-can (asked (goal.at.identity_columns-requires-2 c).Start) (lent (goal.at.identity_columns-requires-2 c).Start) (sym c.if-no-ne0.false ∙ c.refuse_make-no.ensures)).column-logicals (made-can (asked (goal.at.identity_columns-requires-2 c).Start) (lent (goal.at.identity_columns-requires-2 c).Start) (sym c.if-no-ne0.false ∙ c.refuse_make-no.ensures)).width
+pub make_identity-requires-4 : goal.make_identity-requires-4
+make_identity-requires-4 c = columns-number _ _ (made-can (asked (goal.at.make_identity-requires-4 c).Start) (lent (goal.at.make_identity-requires-4 c).Start) (sym c.if-no-ne0.false ∙ c.refuse_make-no.ensures)).column-logicals (made-can (asked (goal.at.make_identity-requires-4 c).Start) (lent (goal.at.make_identity-requires-4 c).Start) (sym c.if-no-ne0.false ∙ c.refuse_make-no.ensures)).width
 
 pub returns : goal.returns
-returns c = make-done _ _ _ _ refl (inside (asked (goal.at.returns c).Start) (lent (goal.at.returns c).Start) (sym c.if-no-ne0.false ∙ c.refuse_make-no.ensures)) refl (long-enough (asked (goal.at.returns c).Start) (lent (goal.at.returns c).Start) (sym c.if-no-ne0.false ∙ c.refuse_make-no.ensures)) _ _ _ _ _ _ _ _ _ _ c.clear_rows.ensures c.clear_index.ensures c.identity_rows.ensures c.identity_rows-2.ensures c.identity_columns.ensures c.identity_columns-2.ensures
+returns c = make-done _ _ _ _ refl (inside (asked (goal.at.returns c).Start) (lent (goal.at.returns c).Start) (sym c.if-no-ne0.false ∙ c.refuse_make-no.ensures)) refl (long-enough (asked (goal.at.returns c).Start) (lent (goal.at.returns c).Start) (sym c.if-no-ne0.false ∙ c.refuse_make-no.ensures)) _ _ _ _ _ _ _ _ _ _ c.clear_rows.ensures c.clear_index.ensures c.make_identity.ensures c.make_identity-2.ensures c.make_identity-3.ensures c.make_identity-4.ensures

@@ -9,8 +9,8 @@ overflow_mul-from c = omega (arith, (drop-words _ _ _ _ _ _ _ c.requires _ _ c.p
 pub overflow_mul-to : goal.overflow_mul-to
 overflow_mul-to c = omega (arith, (drop-words _ _ _ _ _ _ _ c.requires _ _ c.place-from.ensures c.place-to.ensures _ c.words_for-size.ensures).in-it)
 
-pub clear_u64-requires : goal.clear_u64-requires
-clear_u64-requires c = drop-words _ _ _ _ _ _ _ c.requires _ _ c.place-from.ensures c.place-to.ensures _ c.words_for-size.ensures
+pub clear-requires : goal.clear-requires
+clear-requires c = drop-words _ _ _ _ _ _ _ c.requires _ _ c.place-from.ensures c.place-to.ensures _ c.words_for-size.ensures
 
 pub overflow_mul-from-2 : goal.overflow_mul-from-2
 overflow_mul-from-2 c = omega (arith, (drop-slots _ _ _ _ _ _ _ c.requires _ _ c.place-from.ensures c.place-to.ensures _ c.place-cap.ensures).in_order, (drop-slots _ _ _ _ _ _ _ c.requires _ _ c.place-from.ensures c.place-to.ensures _ c.place-cap.ensures).in-it)
@@ -18,8 +18,8 @@ overflow_mul-from-2 c = omega (arith, (drop-slots _ _ _ _ _ _ _ c.requires _ _ c
 pub overflow_mul-to-2 : goal.overflow_mul-to-2
 overflow_mul-to-2 c = omega (arith, (drop-slots _ _ _ _ _ _ _ c.requires _ _ c.place-from.ensures c.place-to.ensures _ c.place-cap.ensures).in-it)
 
-pub clear_u16-requires : goal.clear_u16-requires
-clear_u16-requires c = drop-slots _ _ _ _ _ _ _ c.requires _ _ c.place-from.ensures c.place-to.ensures _ c.place-cap.ensures
+pub clear-requires-2 : goal.clear-requires-2
+clear-requires-2 c = drop-slots _ _ _ _ _ _ _ c.requires _ _ c.place-from.ensures c.place-to.ensures _ c.place-cap.ensures
 
 pub returns : goal.returns
-returns c = dropped _ _ _ _ _ _ _ c.requires _ _ c.place-from.ensures c.place-to.ensures _ _ c.place-cap.ensures c.words_for-size.ensures _ _ _ _ _ c.clear_u16.ensures c.clear_u16-2.ensures c.clear_u32.ensures c.clear_u32-2.ensures c.clear_u64.ensures
+returns c = dropped _ _ _ _ _ _ _ c.requires _ _ c.place-from.ensures c.place-to.ensures _ _ c.place-cap.ensures c.words_for-size.ensures _ _ _ _ _ c.clear-2.ensures c.clear-3.ensures c.clear-4.ensures c.clear-5.ensures c.clear.ensures

@@ -18,8 +18,8 @@ keep_columns-requires c = record { well_formed = rows_ok _ _ _ _ _ _ _ _ _ _ _ c
 pub overflow_mul-place : goal.overflow_mul-place
 overflow_mul-place c = omega (arith, words-low _ _ _ _ _ _ _ _ _ _ _ c.requires.well_formed _ c.requires.value _ _ _ _ _ c.bring_all.ensures _ _ _ _ _ c.drop_rows.ensures _ _ c.place.ensures c.words_for.ensures)
 
-pub clear_u64-requires : goal.clear_u64-requires
-clear_u64-requires c = words-in _ _ _ _ _ _ _ _ _ _ _ c.requires.well_formed _ c.requires.value _ _ _ _ _ c.bring_all.ensures _ _ _ _ _ c.drop_rows.ensures _ _ c.place.ensures c.words_for.ensures
+pub clear-requires : goal.clear-requires
+clear-requires c = words-in _ _ _ _ _ _ _ _ _ _ _ c.requires.well_formed _ c.requires.value _ _ _ _ _ c.bring_all.ensures _ _ _ _ _ c.drop_rows.ensures _ _ c.place.ensures c.words_for.ensures
 
 pub returns : goal.returns
-returns c = columns-done _ _ _ _ _ _ _ _ _ _ _ c.requires.well_formed _ c.requires.value _ _ _ _ _ c.bring_all.ensures _ _ _ _ _ c.drop_rows.ensures c.if-w-head.false _ _ _ c.keep_columns.ensures _ _ c.place.ensures c.words_for.ensures c.clear_u64.ensures
+returns c = columns-done _ _ _ _ _ _ _ _ _ _ _ c.requires.well_formed _ c.requires.value _ _ _ _ _ c.bring_all.ensures _ _ _ _ _ c.drop_rows.ensures c.if-w-head.false _ _ _ c.keep_columns.ensures _ _ c.place.ensures c.words_for.ensures c.clear.ensures

@@ -10,4 +10,4 @@ pub overflow_mul-h-2 : goal.overflow_mul-h-2
 overflow_mul-h-2 c = omega (arith, words-low _ c.requires _ c.words_for.ensures)
 
 pub returns : goal.returns
-returns c = unused-told _ _ _ _ _ _ _ _ _ c.words_for.ensures _ _ _ _ _ _ _ c.rest_zero_u16.ensures c.rest_zero_u16-2.ensures c.rest_zero_u32.ensures c.rest_zero_u32-2.ensures c.rest_zero_u16-3.ensures c.rest_zero_u16-4.ensures c.rest_zero_u64.ensures
+returns c = unused-told _ _ _ _ _ _ _ _ _ c.words_for.ensures _ _ _ _ _ _ _ c.rest_zero.ensures c.rest_zero-2.ensures c.rest_zero-3.ensures c.rest_zero-4.ensures c.rest_zero-5.ensures c.rest_zero-6.ensures c.rest_zero-7.ensures

@@ -13,4 +13,4 @@ pub returns-then-not-sound : goal.returns-then-not-sound
 returns-then-not-sound c = row-wrong _ _ _ _ _ _ _ c.sound.ensures c.if-not-sound.true
 
 pub returns : goal.returns
-returns c = row_told _ _ _ _ _ _ _ c.sound.ensures c.if-k-count.false c.if-not-sound.false _ c.rest_zero_u16.ensures
+returns c = row_told _ _ _ _ _ _ _ c.sound.ensures c.if-k-count.false c.if-not-sound.false _ c.rest_zero.ensures
