@@ -28,7 +28,7 @@ use Rattle.model.specs.Store.{Full, table_of, held_of}
 use Rattle.model.specs.WellFormed.{WellFormed}
 use Rattle.model.specs.Step.{inner, full_after}
 use Rattle.lines.specs.Line.{dec, spaced, numbers, line_long}
-use Rattle.lines.proofs.Decimal.{one-long, dec-short}
+use Rattle.lines.proofs.Dec.{one-long, dec-short}
 use Rattle.lines.proofs.Writing.{long_ok, long-no, long-none, long-one, long-three}
 use Rattle.operations.specs.Applied.{Form, form, asks}
 use Rattle.operations.specs.Applied as told

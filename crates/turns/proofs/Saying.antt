@@ -27,6 +27,8 @@ use Rattle.store_head.proofs.Refuses.{accepted, none_told}
 use Rattle.store_head.proofs.Replies.{values}
 use Rattle.store_head.proofs.QueryPlaces.{words-in}
 use Rattle.lines.specs.Line.{line_of, line_long}
+use Rattle.lines.specs.Wrote.{Wrote}
+use Rattle.lines.specs.declared.Lines.{Lines}
 use Rattle.store_head.specs.declared.Numbers.{Numbers}
 use Rattle.operations.specs.declared.Told.{Told}
 use Rattle.operations.specs.declared.Told.TheVariants as told
@@ -262,10 +264,10 @@ part_small y x n k ey hx hn ek =
     omega (arith, mul-le-mul_right k less)
 
 -- ---- what is written is what is told
-list-part : (l : List ℕ) (c : ℕ) → c ≤ length l → take (c - 0) (drop 0 l) ≡ stretch l 0 c
-list-part l c h = ap (λ k. take k (drop 0 l)) more ∙ part-is l 0 c ∙ sym (stretch-part l 0 c (omega arith))
+list-part : (l : List ℕ) (c : ℕ) → c ≤ length l → take c l ≡ stretch l 0 c
+list-part l c h = ap (λ k. take k l) more ∙ part-is l 0 c ∙ sym (stretch-part l 0 c (omega (arith, h)))
   where
-    more : c - 0 ≡ 0 + c - 0
+    more : c ≡ 0 + c - 0
     more = omega arith
 
 pub said-as : (t u : Told) → t ≡ u → (at : ℕ) (ws answers : List ℕ) → said t at ws answers ≡ said u at ws answers
@@ -282,12 +284,11 @@ module _ (t : Told) (at : ℕ) (ws answers lines : List ℕ) (used : ℕ) where
     pub words-places : (c : ℕ) → t ≡ told.Words c → at + c ≤ length ws
     words-places c e = rw e at p.words
 
-    pub list-said : (c : ℕ) → t ≡ told.List c → said t at ws answers ≡ ok (take (c - 0) (drop 0 answers))
+    pub list-said : (c : ℕ) → t ≡ told.List c → said t at ws answers ≡ ok (take c answers)
     list-said c e = rw e (ap ok (sym (list-part answers c (list-places c e))))
 
     pub words-said : (c : ℕ) → t ≡ told.Words c → said t at ws answers ≡ ok (take (at + c - at) (drop at ws))
     words-said c e = rw e (ap ok (sym (part-is ws at c ∙ sym (stretch-part ws at c (words-places c e)))))
 
-  pub written_as : (r : Reply) → said t at ws answers ≡ r → (k : ℕ) (m : List ℕ) → k ≡ used + line_long r → m ≡ sets lines used (line_of r)
-      → (k ≡ used + line_long (said t at ws answers)) × (m ≡ sets lines used (line_of (said t at ws answers)))
-  written_as r e k m a b = (a ∙ ap (λ (x : Reply). used + line_long x) (sym e), b ∙ ap (λ (x : Reply). sets lines used (line_of x)) (sym e))
+pub told-put : (t : Told) (at : ℕ) (ws answers : List ℕ) {r : Reply} → said t at ws answers ≡ r → {a b : Lines} → Wrote a b (line_of r) → Wrote a b (line_of (said t at ws answers))
+told-put t at ws answers e w = rw e w

@@ -15,6 +15,8 @@ use Rattle.model.specs.Store.{Full}
 use Rattle.records.specs.declared.Read.{Read}
 use Rattle.records.specs.Reading.{read_at}
 use Rattle.lines.specs.Line.{line_of, line_long}
+use Rattle.lines.specs.declared.Lines.{Lines}
+use Rattle.lines.specs.Wrote.{Wrote}
 use Rattle.turns.specs.Turned.{Turned, turn_by, turn_read, turn_of}
 
 -- ---- what stands at a position decides the turn
@@ -35,6 +37,10 @@ module _ {S T : Type 0} (left : S → T) where
           ≡ pick b (record { went = true; at = next; used = used + line_long (nay k); after = left x; lines = sets out used (line_of (nay k)) }) (record { went = false; at = at; used = used; after = left x; lines = out })
       by-fit true = refl
       by-fit false = refl
+
+-- ---- the line bytes once they are no longer lent: what was lent is what comes back
+pub lines-back : {a b : Lines} {t m : List ℕ} → Wrote a b t → (a.bytes.ghost_name ≡ b.bytes.ghost_name → m ≡ b.bytes.now) → m ≡ sets a.bytes.now a.used t
+lines-back w back = back (sym w.same) ∙ w.bytes
 
 -- ---- the line of a refusal
 pub no_room : {S : Type 0} (k next at used long : ℕ) (out : List ℕ) (d : S) → long ≡ line_long (nay k) → length out - used < long

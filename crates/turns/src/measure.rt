@@ -171,7 +171,7 @@ fn line_length(
             p.a,
             p.b,
         )),
-        Op::Words(p) => lines::words_length(row_tail::sub_row_in(
+        Op::Words(p) => lines::list_length(row_tail::sub_row_in(
             head,
             slots,
             counts,

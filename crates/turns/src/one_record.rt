@@ -7,6 +7,7 @@ ghost use Rattle.store_head.specs.Lent.{store_of, full_of};
 ghost use Rattle.turns.specs.Turned.{turn_by, turn_of, turn_told};
 
 use crate::{Turn, measure, tell};
+use lines::Lines;
 use records::Read;
 use store_head::{Numbers, refusals};
 use table::Op;
@@ -25,11 +26,12 @@ fn refuse(head: Numbers, lines: &mut [u8], k: u32, next: usize, at: usize, used:
             went: false,
         };
     }
-    let end = lines::put_no(lines, used, k);
+    let mut to = Lines { bytes: lines, used };
+    to.put_no(k);
     Turn {
         head: head,
         at: next,
-        used: end,
+        used: to.used,
         went: true,
     }
 }
@@ -100,11 +102,12 @@ fn perform(
     );
     let left = a.head;
     let told = a.told;
-    let end = tell::put_told(told, from, words, answers, lines, used);
+    let mut to = Lines { bytes: lines, used };
+    tell::put_told(&mut to, told, from, words, answers);
     Turn {
         head: left,
         at: next,
-        used: end,
+        used: to.used,
         went: true,
     }
 }

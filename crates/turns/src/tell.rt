@@ -1,10 +1,11 @@
 // The line of what one call tells.
-ghost use Rattle.std.specs.Prelude.{◌≡◌, ◌+◌, ◌≤◌};
-ghost use Rattle.std.proofs.lemmas.List.Edits.{sets};
+ghost use Rattle.std.specs.Prelude.{◌≡◌, ◌≤◌};
 ghost use Rattle.operations.specs.Applied.{part_at};
-ghost use Rattle.lines.specs.Line.{line_of, line_long};
+ghost use Rattle.lines.specs.Line.{line_of};
+ghost use Rattle.lines.specs.Wrote.{Wrote};
 ghost use Rattle.turns.specs.Said.{said, homes_of, CanPut};
 
+use lines::Lines;
 use operations::Told;
 use store_head::{Numbers, places};
 use table::Op;
@@ -27,31 +28,17 @@ pub fn part_at(head: Numbers, row_homes: &[u32], op: Op) -> usize
     }
 }
 
-// Writes the line of what is told from byte `used` on, and answers where it ends. A list is read from the answer buffer, WORDS' part from the lent words.
-pub fn put_told(
-    told: Told,
-    from: usize,
-    words: &[u64],
-    answers: &[u32],
-    lines: &mut [u8],
-    used: usize,
-) -> usize
-    requires { CanPut told from words.now answers.now lines.old used }
-    ensures value { result ≡ used + line_long (said told from words.now answers.now) }
-    ensures lines_after { lines.new ≡ sets lines.old used (line_of (said told from words.now answers.now)) }
+// Writes the line of what is told. A list is read from the answer buffer, WORDS' part from the lent words.
+pub fn put_told(to: &mut Lines, told: Told, from: usize, words: &[u64], answers: &[u32])
+    requires { CanPut told from words.now answers.now to.old.bytes.now to.old.used }
+    ensures { Wrote to.old to.new (line_of (said told from words.now answers.now)) }
 {
     match told {
-        Told::Done => lines::put_ok(lines, used),
-        Told::Number(x) => lines::put_number(lines, used, x),
-        Told::Sizes(p) => lines::put_three(lines, used, p.h, p.w, p.n),
-        Told::List(c) => {
-            let count = c as usize;
-            lines::put_list(lines, used, &answers[0..count])
-        }
-        Told::Words(c) => {
-            let count = c as usize;
-            lines::put_words(lines, used, &words[from..from + count])
-        }
-        Told::No(k) => lines::put_no(lines, used, k),
+        Told::Done => to.put_ok(),
+        Told::Number(x) => to.put_number(x),
+        Told::Sizes(p) => to.put_three(p.h, p.w, p.n),
+        Told::List(c) => to.put_list(&answers[..c as usize]),
+        Told::Words(c) => to.put_list(&words[from..from + c as usize]),
+        Told::No(k) => to.put_no(k),
     }
 }

@@ -1,14 +1,15 @@
 -- `turns::measure::line_length` meets its contract. Assumes nothing.
 use Rattle.turns.proofs.Measuring.{as_line, as-free, refused-line, answer-line, done-line, number-line, words-line, words-few}
 use mathlib.Core.Path.{refl, sym, ◌∙◌}
+use Rattle.std.proofs.lemmas.List.{map-id}
 use Rattle.operations.proofs.Others.{no-question-told}
 use Rattle.turns.proofs.measure.line_length.Goals as goal
 
 pub returns-then-no-ne0 : goal.returns-then-no-ne0
 returns-then-no-ne0 c = refused-line _ _ _ c.refusal-no.ensures c.if-no-ne0.true _ c.no_length.ensures
 
-pub words_length-requires : goal.words_length-requires
-words_length-requires c = words-few _ _ _ _ (as-free _ _ c.in-Words.is _ _ c.refusal-no.ensures c.if-no-ne0.false) c.sub_row_in.ensures c.requires
+pub list_length-requires : goal.list_length-requires
+list_length-requires c = words-few _ _ _ _ (as-free _ _ c.in-Words.is _ _ c.refusal-no.ensures c.if-no-ne0.false) c.sub_row_in.ensures c.requires
 
 pub tail_line-requires : goal.tail_line-requires
 tail_line-requires c = record { well_formed = c.requires; value = as-free _ _ c.in-TailOnes.is _ _ c.refusal-no.ensures c.if-no-ne0.false }
@@ -26,7 +27,7 @@ pub returns-in-Count : goal.returns-in-Count
 returns-in-Count c = number-line _ _ c.in-Count.is refl _ _ c.count_ones_in.result c.count_ones_in.ensures _ c.number_line-in-Count.ensures
 
 pub returns-in-Words : goal.returns-in-Words
-returns-in-Words c = as_line _ _ c.in-Words.is _ _ (words-line _ _ _ _ (as-free _ _ c.in-Words.is _ _ c.refusal-no.ensures c.if-no-ne0.false) c.sub_row_in.ensures _ c.words_length.ensures.0)
+returns-in-Words c = as_line _ _ c.in-Words.is _ _ (words-line _ _ _ _ (as-free _ _ c.in-Words.is _ _ c.refusal-no.ensures c.if-no-ne0.false) c.sub_row_in.ensures _ (rw map-id at c.list_length.ensures.0))
 
 pub returns-in-TailOnes : goal.returns-in-TailOnes
 returns-in-TailOnes c = as_line _ _ c.in-TailOnes.is _ _ c.tail_line.ensures

@@ -1,5 +1,6 @@
 -- `turns::one_record::perform` meets its contract. Assumes nothing.
 use Rattle.turns.proofs.Saying.{stopped, can-put, gone, part-is-there}
+use Rattle.turns.proofs.Turned.{lines-back}
 use mathlib.Core.Path.{refl, sym, ◌∙◌}
 use Rattle.model.specs.Store.{Full}
 use Rattle.store_head.specs.Lent.{store_of, full_of}
@@ -20,8 +21,8 @@ part_at-from-requires c = omega (arith, c.requires.well_formed.limits.tail, c.re
 pub apply-a-requires : goal.apply-a-requires
 apply-a-requires c = (λ n. c.requires.well_formed)
 
-pub put_told-end-requires : goal.put_told-end-requires
-put_told-end-requires c = can-put c.args.op (lent (goal.at.put_told-end-requires c).Start) c.requires.well_formed _ _ _ c.apply-a.ensures _ _ _ (part-is-there c.args.op _ _ _ refl refl c.part_at-from.ensures) c.requires.used_in_bounds (sym c.has_room.ensures ∙ c.if-not-has_room.false)
+pub put_told-requires : goal.put_told-requires
+put_told-requires c = can-put c.args.op (lent (goal.at.put_told-requires c).Start) c.requires.well_formed _ _ _ c.apply-a.ensures _ _ _ (part-is-there c.args.op _ _ _ refl refl c.part_at-from.ensures) c.requires.used_in_bounds (sym c.has_room.ensures ∙ c.if-not-has_room.false)
 
 pub returns : goal.returns
-returns c = gone c.args.op (lent (goal.at.returns c).Start) c.requires.well_formed _ _ c.apply-a.result.told c.apply-a.ensures _ _ _ _ _ _ _ (part-is-there c.args.op _ _ _ refl refl c.part_at-from.ensures) (sym c.has_room.ensures ∙ c.if-not-has_room.false) c.put_told-end.ensures.value c.put_told-end.ensures.lines_after
+returns c = gone c.args.op (lent (goal.at.returns c).Start) c.requires.well_formed _ _ c.apply-a.result.told c.apply-a.ensures _ _ _ _ _ _ _ (part-is-there c.args.op _ _ _ refl refl c.part_at-from.ensures) (sym c.has_room.ensures ∙ c.if-not-has_room.false) c.put_told.ensures.used (lines-back c.put_told.ensures c.lines-1.given.1.1)
