@@ -5,23 +5,15 @@ ghost use Rattle.sparse_vec.specs.Row.{put_row};
 ghost use Rattle.table.specs.declared.Op.TheVariants.{Add};
 ghost use Rattle.model.specs.WellFormed.{WellFormed};
 ghost use Rattle.model.specs.Step.{inner, result_of};
-ghost use Rattle.store_head.specs.Lent.{store_of, full_of};
-ghost use Rattle.store_head.specs.Told.{changed_told};
-ghost use Rattle.store_head.specs.Refused.{refusal_of};
+ghost use Rattle.store_head.specs.Lent.{seen, full_of};
+ghost use Rattle.store_head.specs.Writing.{sums, SameSum};
+ghost use Rattle.store_head.specs.Told.{change_told};
+ghost use Rattle.store_head.specs.Refused.{refusal_of, refused_by};
 ghost use Rattle.cells.specs.Added.{adding, CanSum, CanAddLists, CanSpend, sum_of_rows, not_one, sum_refused};
 
 use permutation::LogicalRow;
 use sparse_vec::Row;
-use store_head::{Changed, Numbers, refusals};
-
-// Where row `r` is kept, as a place.
-fn home(row_homes: &[u32], r: u32) -> usize
-    requires { r < length row_homes.now }
-    ensures { result ≡ get_or row_homes.now r 0 }
-{
-    let y = permutation::home_row(row_homes, LogicalRow(r));
-    y.0 as usize
-}
+use store_head::{Refusal, Store, SumMut};
 
 // Whether a start is neither 0 nor the first tail column.
 fn aside(start: u32, edge: u32) -> bool
@@ -41,7 +33,7 @@ fn not_one(slots: &[u16], counts: &[u16], on: bool, k: usize, y: usize, x: usize
     if !on {
         return false;
     }
-    if counts[x] != 1 {
+    if counts[x] as usize != 1 {
         return true;
     }
     let at = x * k;
@@ -54,13 +46,20 @@ fn not_one(slots: &[u16], counts: &[u16], on: bool, k: usize, y: usize, x: usize
     !sparse_vec::get(to.numbers(slots), z)
 }
 
-// The refusal of a sum of rows `y` and `x`: 10, then 12, and 0 where there is none.
-fn refuse_sum(slots: &[u16], counts: &[u16], on: bool, k: usize, y: usize, x: usize) -> u32
+// The refusal of a sum of rows `y` and `x`: 10, then 12.
+fn refuse_sum(
+    slots: &[u16],
+    counts: &[u16],
+    on: bool,
+    k: usize,
+    y: usize,
+    x: usize,
+) -> Result<(), Refusal>
     requires { CanSum slots.now counts.now k y x }
-    ensures { result ≡ sum_refused on slots.now counts.now k y x }
+    ensures { refused_by result ≡ sum_refused on slots.now counts.now k y x }
 {
     if not_one(slots, counts, on, k, y, x) {
-        return refusals::SINGLE;
+        return Err(Refusal::Single);
     }
     let to = Row {
         at: y * k,
@@ -72,10 +71,10 @@ fn refuse_sum(slots: &[u16], counts: &[u16], on: bool, k: usize, y: usize, x: us
         len: counts[x] as usize,
         cap: k,
     };
-    if sparse_vec::sum_fits(slots, to, from) {
-        return 0;
+    if !sparse_vec::sum_fits(slots, to, from) {
+        return Err(Refusal::Slots);
     }
-    refusals::SLOTS
+    Ok(())
 }
 
 // The one number of a row is found at its first place: its mark becomes spent.
@@ -117,92 +116,55 @@ fn add_lists(slots: &mut [u16], counts: &mut [u16], all: bool, k: usize, y: usiz
     counts[y] = len as u16;
 }
 
-// The refusal of ADD, and 0 where there is none: 4 a row past the height, 6 a start between, 7 the same row, then those of the sum.
-pub fn refuse_add(
-    head: Numbers,
-    slots: &[u16],
-    counts: &[u16],
-    row_homes: &[u32],
-    row_logicals: &[u32],
-    column_homes: &[u16],
-    column_logicals: &[u16],
-    marks: &[u8],
-    starts: &[u64],
-    entries: &[u32],
-    words: &[u64],
-    d: u32,
-    s: u32,
-    start: u32,
-) -> u32
-    requires { WellFormed (store_of head slots.now counts.now row_homes.now row_logicals.now column_homes.now column_logicals.now marks.now starts.now entries.now words.now) }
-    ensures { result ≡ refusal_of (inner (Add (adding d s start)) (full_of (store_of head slots.now counts.now row_homes.now row_logicals.now column_homes.now column_logicals.now marks.now starts.now entries.now words.now) [])) }
+// The refusal of ADD: 4 a row past the height, 6 a start between, 7 the same row, then those of the sum.
+pub fn refuse_add(store: &Store, d: u32, s: u32, start: u32) -> Result<(), Refusal>
+    requires { WellFormed (seen store.now) }
+    ensures { refused_by result ≡ refusal_of (inner (Add (adding d s start)) (full_of (seen store.now) [])) }
 {
+    let head = store.head;
     if head.h <= d {
-        return refusals::ROW;
+        return Err(Refusal::Row);
     }
     if head.h <= s {
-        return refusals::ROW;
+        return Err(Refusal::Row);
     }
     if aside(start, head.w - head.n) {
-        return refusals::SIDE;
+        return Err(Refusal::Side);
     }
     if d == s {
-        return refusals::SAME;
+        return Err(Refusal::Same);
     }
     if start != 0 {
-        return 0;
+        return Ok(());
     }
-    let y = home(row_homes, d);
-    let x = home(row_homes, s);
-    refuse_sum(slots, counts, head.on, head.slots as usize, y, x)
+    let y = permutation::home_row(store.row_homes, LogicalRow(d)).0 as usize;
+    let x = permutation::home_row(store.row_homes, LogicalRow(s)).0 as usize;
+    refuse_sum(
+        store.slots,
+        store.counts,
+        head.on,
+        head.slots as usize,
+        y,
+        x,
+    )
 }
 
 // ADD: "row d xor row s: start 0 all columns, start w-n tail only", with the cancelled column's mark spent where the index is on.
-pub fn add_assign_rows_in(
-    head: Numbers,
-    slots: &mut [u16],
-    counts: &mut [u16],
-    row_homes: &[u32],
-    row_logicals: &[u32],
-    column_homes: &[u16],
-    column_logicals: &[u16],
-    marks: &mut [u8],
-    starts: &[u64],
-    entries: &[u32],
-    words: &mut [u64],
-    d: u32,
-    s: u32,
-    start: u32,
-) -> Changed
-    requires { WellFormed (store_of head slots.old counts.old row_homes.now row_logicals.now column_homes.now column_logicals.now marks.old starts.now entries.now words.old) }
-    ensures { changed_told head result (λ d. store_of d slots.new counts.new row_homes.now row_logicals.now column_homes.now column_logicals.now marks.new starts.now entries.now words.new) ≡ result_of (full_of (store_of head slots.old counts.old row_homes.now row_logicals.now column_homes.now column_logicals.now marks.old starts.now entries.now words.old) []) (inner (Add (adding d s start)) (full_of (store_of head slots.old counts.old row_homes.now row_logicals.now column_homes.now column_logicals.now marks.old starts.now entries.now words.old) [])) }
+pub fn add_assign_rows_in(store: &mut SumMut, d: u32, s: u32, start: u32) -> Result<(), Refusal>
+    requires { WellFormed (sums store.old) }
+    ensures told { change_told result (sums store.new) ≡ result_of (full_of (sums store.old) []) (inner (Add (adding d s start)) (full_of (sums store.old) [])) }
+    ensures same { SameSum store.old store.new }
 {
-    let no = refuse_add(
-        head,
-        slots,
-        counts,
-        row_homes,
-        row_logicals,
-        column_homes,
-        column_logicals,
-        marks,
-        starts,
-        entries,
-        words,
-        d,
-        s,
-        start,
-    );
-    if no != 0 {
-        return Changed::No(no);
-    }
-    let y = home(row_homes, d);
-    let x = home(row_homes, s);
+    refuse_add(&store.view(), d, s, start)?;
+    let head = store.head;
+    let y = permutation::home_row(store.row_homes, LogicalRow(d)).0 as usize;
+    let x = permutation::home_row(store.row_homes, LogicalRow(s)).0 as usize;
     let k = head.slots as usize;
     let all = start == 0;
+    let slots = &mut *store.slots;
+    let marks = &mut *store.marks;
     spend(slots, marks, all, head.on, k, x);
-    add_lists(slots, counts, all, k, y, x);
-    let size = tail::words_for(head.n);
-    tail::xor_rows(words, size, y, x);
-    Changed::Done(head)
+    add_lists(store.slots, store.counts, all, k, y, x);
+    tail::xor_rows(store.words, tail::words_for(head.n), y, x);
+    Ok(())
 }

@@ -6,14 +6,15 @@ ghost use Rattle.table.specs.declared.Op.TheVariants.{Set};
 ghost use Rattle.model.specs.WellFormed.{WellFormed};
 ghost use Rattle.model.specs.Change.{set_row};
 ghost use Rattle.model.specs.Step.{inner, result_of};
-ghost use Rattle.store_head.specs.Lent.{store_of, full_of};
-ghost use Rattle.store_head.specs.Told.{changed_told};
-ghost use Rattle.store_head.specs.Refused.{refusal_of};
+ghost use Rattle.store_head.specs.Lent.{seen, full_of};
+ghost use Rattle.store_head.specs.Writing.{cells, SameCells};
+ghost use Rattle.store_head.specs.Told.{change_told};
+ghost use Rattle.store_head.specs.Refused.{refusal_of, refused_by};
 ghost use Rattle.cells.specs.Cells.{place, RowKept, CanSet};
 
 use permutation::LogicalRow;
 use sparse_vec::Row;
-use store_head::{Changed, Numbers, places, refusals};
+use store_head::{CellsMut, Refusal, Store, places};
 
 // Whether the row has room for what it holds after home column `z` is put in, or taken out where `v` is false.
 fn has_room(slots: &[u16], counts: &[u16], y: usize, k: usize, z: u16, v: bool) -> bool
@@ -62,93 +63,61 @@ fn change_row(slots: &mut [u16], counts: &mut [u16], y: usize, k: usize, z: u16,
     counts[y] = more as u16;
 }
 
-// The refusal of SET, and 0 where there is none: 4 past the height, 5 past the width; of a sparse column 9 while the index is on, 12 where the row has no
-// slot left for it.
-pub fn refuse_set(
-    head: Numbers,
-    slots: &[u16],
-    counts: &[u16],
-    row_homes: &[u32],
-    row_logicals: &[u32],
-    column_homes: &[u16],
-    column_logicals: &[u16],
-    marks: &[u8],
-    starts: &[u64],
-    entries: &[u32],
-    words: &[u64],
-    r: u32,
-    c: u32,
-    v: u8,
-) -> u32
-    requires { WellFormed (store_of head slots.now counts.now row_homes.now row_logicals.now column_homes.now column_logicals.now marks.now starts.now entries.now words.now) }
-    ensures { result ≡ refusal_of (inner (Set (place r c v)) (full_of (store_of head slots.now counts.now row_homes.now row_logicals.now column_homes.now column_logicals.now marks.now starts.now entries.now words.now) [])) }
+// The refusal of SET: 4 past the height, 5 past the width; of a sparse column 9 while the index is on, 12 where the row has no slot left for it.
+pub fn refuse_set(store: &Store, r: u32, c: u32, v: u8) -> Result<(), Refusal>
+    requires { WellFormed (seen store.now) }
+    ensures { refused_by result ≡ refusal_of (inner (Set (place r c v)) (full_of (seen store.now) [])) }
 {
+    let head = store.head;
     if head.h <= r {
-        return refusals::ROW;
+        return Err(Refusal::Row);
     }
     if head.w <= c {
-        return refusals::COLUMN;
+        return Err(Refusal::Column);
     }
     if head.w - head.n <= c {
-        return 0;
+        return Ok(());
     }
     if head.on {
-        return refusals::PHASE;
+        return Err(Refusal::Phase);
     }
-    let y = places::row_place(permutation::home_row(row_homes, LogicalRow(r)));
-    let z = permutation::home_column(column_homes, places::column(c));
-    if !has_room(slots, counts, y, head.slots as usize, z.0, v != 0) {
-        return refusals::SLOTS;
+    let y = permutation::home_row(store.row_homes, LogicalRow(r));
+    let z = permutation::home_column(store.column_homes, places::column(c));
+    if !has_room(
+        store.slots,
+        store.counts,
+        y.0 as usize,
+        head.slots as usize,
+        z.0,
+        v != 0,
+    ) {
+        return Err(Refusal::Slots);
     }
-    0
+    Ok(())
 }
 
 // SET: cell `r`, `c` becomes one, or zero where `v` is 0. Refused with 4, 5, 9 or 12; a tail column only with 4 or 5.
-pub fn set_in(
-    head: Numbers,
-    slots: &mut [u16],
-    counts: &mut [u16],
-    row_homes: &[u32],
-    row_logicals: &[u32],
-    column_homes: &[u16],
-    column_logicals: &[u16],
-    marks: &[u8],
-    starts: &[u64],
-    entries: &[u32],
-    words: &mut [u64],
-    r: u32,
-    c: u32,
-    v: u8,
-) -> Changed
-    requires { WellFormed (store_of head slots.old counts.old row_homes.now row_logicals.now column_homes.now column_logicals.now marks.now starts.now entries.now words.old) }
-    ensures { changed_told head result (λ d. store_of d slots.new counts.new row_homes.now row_logicals.now column_homes.now column_logicals.now marks.now starts.now entries.now words.new) ≡ result_of (full_of (store_of head slots.old counts.old row_homes.now row_logicals.now column_homes.now column_logicals.now marks.now starts.now entries.now words.old) []) (inner (Set (place r c v)) (full_of (store_of head slots.old counts.old row_homes.now row_logicals.now column_homes.now column_logicals.now marks.now starts.now entries.now words.old) [])) }
+pub fn set_in(store: &mut CellsMut, r: u32, c: u32, v: u8) -> Result<(), Refusal>
+    requires { WellFormed (cells store.old) }
+    ensures told { change_told result (cells store.new) ≡ result_of (full_of (cells store.old) []) (inner (Set (place r c v)) (full_of (cells store.old) [])) }
+    ensures same { SameCells store.old store.new }
 {
-    let no = refuse_set(
-        head,
-        slots,
-        counts,
-        row_homes,
-        row_logicals,
-        column_homes,
-        column_logicals,
-        marks,
-        starts,
-        entries,
-        words,
-        r,
-        c,
-        v,
-    );
-    if no != 0 {
-        return Changed::No(no);
-    }
-    let y = places::row_place(permutation::home_row(row_homes, LogicalRow(r)));
+    refuse_set(&store.view(), r, c, v)?;
+    let head = store.head;
+    let y = permutation::home_row(store.row_homes, LogicalRow(r)).0 as usize;
     let edge = head.w - head.n;
     if edge <= c {
-        tail::put(words, head.n, y, c - edge, v != 0);
-        return Changed::Done(head);
+        tail::put(store.words, head.n, y, c - edge, v != 0);
+        return Ok(());
     }
-    let z = permutation::home_column(column_homes, places::column(c));
-    change_row(slots, counts, y, head.slots as usize, z.0, v != 0);
-    Changed::Done(head)
+    let z = permutation::home_column(store.column_homes, places::column(c));
+    change_row(
+        store.slots,
+        store.counts,
+        y,
+        head.slots as usize,
+        z.0,
+        v != 0,
+    );
+    Ok(())
 }

@@ -51,12 +51,6 @@ module _ (s : Store) (v : WellFormed s) where
   pub last-in : s.head.made < length s.index.starts
   last-in = omega (arith, v.limits.starts)
 
-  pub marks-in : Stretch s.index.marks 0 s.head.made
-  marks-in = record { in_order = omega arith; in-it = v.limits.marks }
-
-  pub entries-in : Stretch s.index.entries 0 (get_or s.index.starts s.head.made 0)
-  entries-in = record { in_order = omega arith; in-it = tidy.end }
-
   pub starts-in : Stretch s.index.starts 0 (s.head.made + 1)
   starts-in = record { in_order = omega arith; in-it = omega (arith, v.limits.starts) }
 

@@ -20,17 +20,14 @@ fn whole(s: &[u8]) -> usize
     ensures { result ≤ length s.now }
 {
     let mut at = 0;
-    loop {
-        let left = s.len() - at;
-        if left < 3 {
-            return at;
-        }
+    while 3 <= s.len() - at {
         let long = records::length_at(s, at);
-        if left - 3 < long {
-            return at;
+        if s.len() - at - 3 < long {
+            break;
         }
-        at = at + 3 + long;
+        at += 3 + long;
     }
+    at
 }
 
 // How many of the first `have` bytes are to be run now: those of whole records, and all of them where no more are to come.
@@ -38,10 +35,7 @@ pub fn ready(buf: &[u8], have: usize, more: bool) -> usize
     requires { have ≤ length buf.now }
     ensures { result ≤ have }
 {
-    if !more {
-        return have;
-    }
-    whole(&buf[0..have])
+    if more { whole(&buf[..have]) } else { have }
 }
 
 // Moves the bytes from w to before `have` to the front, and answers how many they are.
@@ -49,11 +43,6 @@ pub fn shift(buf: &mut [u8], w: usize, have: usize) -> usize
     requires { (w ≤ have) × (have ≤ length buf.old) }
     ensures { result ≤ length buf.new }
 {
-    let n = have - w;
-    let mut i = 0;
-    while i < n {
-        buf[i] = buf[w + i];
-        i += 1;
-    }
-    n
+    buf.copy_within(w..have, 0);
+    have - w
 }

@@ -7,25 +7,24 @@ use borrow.Author.Tests.{le-leb, lt-leb}
 use Rattle.laws.specs.Plain.{pick}
 use Rattle.laws.proofs.Parts.{stretch-length}
 use Rattle.table.specs.declared.Op.{Op}
-use Rattle.table.specs.Refusals.{Verdict, refused}
+use Rattle.table.specs.Refusals.{Verdict, refused, done}
 use Rattle.table.specs.Room.{kind, is_make}
 use Rattle.table.specs.Run.{ok, nay, reply_of}
 use Rattle.model.specs.Store as model
 use Rattle.model.specs.Step.{Result, result_of, step}
 use Rattle.store_head.specs.declared.Numbers.{Numbers}
-use Rattle.store_head.specs.declared.Number.{Number}
-use Rattle.store_head.specs.declared.Number.TheVariants as numbered
-use Rattle.store_head.specs.declared.Listed.{Listed}
-use Rattle.store_head.specs.declared.Listed.TheVariants as listed
-use Rattle.store_head.specs.declared.Sized.{Sized}
-use Rattle.store_head.specs.declared.Sized.TheVariants as sized
+use Rattle.std.specs.Prelude.{Ok, Err}
+use Rattle.std.specs.Prelude as std
+use Rattle.std.specs.Borrow.{Bor}
+use lib.ListN.{length}
+use Rattle.store_head.specs.declared.refusal.Refusal.{Refusal}
+use Rattle.store_head.specs.declared.Size.{Size}
 use Rattle.store_head.specs.Lent.{head_of, full_of}
-use Rattle.store_head.specs.Told.{number_says, size_says, list_told, words_says, changed_told}
-use Rattle.sparse_matrix.specs.declared.Changed.{Changed}
-use Rattle.sparse_matrix.specs.declared.Changed.TheVariants as changed
-use Rattle.sparse_matrix.specs.Heads.{inside}
-use Rattle.script.specs.declared.Ran.{Ran}
-use Rattle.script.specs.declared.Ran.TheVariants as ran
+use Rattle.store_head.specs.Refused.{number_of}
+use Rattle.store_head.specs.Told.{number_says, size_says, list_told, words_says, change_told}
+use Rattle.store_head.proofs.Replies.{never}
+use Rattle.store_head.proofs.Slices.{same_head}
+use Rattle.script.specs.declared.Stand.{Stand}
 use Rattle.script.specs.Left.{Left, ran_told, run_of}
 use Rattle.clatterthaw_host.specs.declared.PlainHead.{PlainHead}
 use Rattle.clatterthaw_host.specs.declared.PlainChanged.{PlainChanged}
@@ -71,6 +70,11 @@ module _ (p : PlainHead) (o : Op) (f : model.Full) (n : is_make (kind o) ≡ fal
         kept = e ∙ ap (λ (r : Result). r.after) left-broken;
       }
 
+-- ---- a call that refuses leaves the store
+refused-keeps : (v : Verdict model.Full) (f : model.Full) (u : model.Store) (j : Refusal) → change_told {A = Unit {0}} (Err j) u ≡ result_of f v → u ≡ f.store
+refused-keeps (refused k) f u j b = ap (λ (t : Result). t.after.store) b
+refused-keeps (done g a) f u j b = never a (number_of j) (ap (λ (t : Result). t.reply) (sym b))
+
 -- ---- one that is: d is the head that crossed, and f the store over a head
 module _ (p : PlainHead) (o : Op) (f : Numbers → model.Full) (d : Numbers) (e : d ≡ numbers_of p) (same : step o (f (numbers_of p)) ≡ crossing p o (f (numbers_of p))) where
   step-crossed : step o (f d) ≡ crossing p o (f (numbers_of p))
@@ -79,58 +83,62 @@ module _ (p : PlainHead) (o : Op) (f : Numbers → model.Full) (d : Numbers) (e 
   left-crossed : result_of (f d) (step o (f d)) ≡ result_of (f (numbers_of p)) (crossing p o (f (numbers_of p)))
   left-crossed = ap (λ (z : Numbers). result_of (f z) (step o (f z))) e ∙ ap (result_of (f (numbers_of p))) same
 
-  number_of : (y : Number) → of_number y ≡ number_by (number_says y)
-  number_of (numbered.Is v) = refl
-  number_of (numbered.No k) = refl
+  as-number : (y : std.Result ℕ Refusal) → of_number y ≡ number_by (number_says y)
+  as-number (Ok v) = refl
+  as-number (Err k) = refl
 
-  pub number-crossed : (y : Number) (x : PlainNumber) → x ≡ of_number y → number_says y ≡ reply_of (step o (f d)) → x ≡ number_by (reply_of (crossing p o (f (numbers_of p))))
-  number-crossed y x a b = a ∙ number_of y ∙ ap number_by (b ∙ ap reply_of step-crossed)
+  pub number-crossed : (y : std.Result ℕ Refusal) (x : PlainNumber) → x ≡ of_number y → number_says y ≡ reply_of (step o (f d)) → x ≡ number_by (reply_of (crossing p o (f (numbers_of p))))
+  number-crossed y x a b = a ∙ as-number y ∙ ap number_by (b ∙ ap reply_of step-crossed)
 
-  size_of : (y : Sized) → of_sized y ≡ size_by (size_says y)
-  size_of (sized.Is v) = refl
-  size_of (sized.No k) = refl
+  as-size : (y : std.Result Size Refusal) → of_sized y ≡ size_by (size_says y)
+  as-size (Ok v) = refl
+  as-size (Err k) = refl
 
-  pub size-crossed : (y : Sized) (x : PlainSize) → x ≡ of_sized y → size_says y ≡ reply_of (step o (f d)) → x ≡ size_by (reply_of (crossing p o (f (numbers_of p))))
-  size-crossed y x a b = a ∙ size_of y ∙ ap size_by (b ∙ ap reply_of step-crossed)
+  pub size-crossed : (y : std.Result Size Refusal) (x : PlainSize) → x ≡ of_sized y → size_says y ≡ reply_of (step o (f d)) → x ≡ size_by (reply_of (crossing p o (f (numbers_of p))))
+  size-crossed y x a b = a ∙ as-size y ∙ ap size_by (b ∙ ap reply_of step-crossed)
 
-  words_of : (words : List ℕ) (at start : ℕ) (y : Number) → of_words start y ≡ words_by start (words_says words at y)
-  words_of words at start (numbered.Is c) = ap (part start) (sym (stretch-length words at c))
-  words_of words at start (numbered.No k) = refl
+  as-words : (start : ℕ) (y : std.Result (Bor (List ℕ)) Refusal) → of_words start y ≡ words_by start (words_says y)
+  as-words start (Ok ws) = refl
+  as-words start (Err k) = refl
 
-  pub words-crossed : (words : List ℕ) (at start : ℕ) (y : Number) (x : PlainWords) → x ≡ of_words start y → words_says words at y ≡ reply_of (step o (f d)) → x ≡ words_by start (reply_of (crossing p o (f (numbers_of p))))
-  words-crossed words at start y x a b = a ∙ words_of words at start y ∙ ap (words_by start) (b ∙ ap reply_of step-crossed)
+  pub words-crossed : (start : ℕ) (y : std.Result (Bor (List ℕ)) Refusal) (x : PlainWords) → x ≡ of_words start y → words_says y ≡ reply_of (step o (f d)) → x ≡ words_by start (reply_of (crossing p o (f (numbers_of p))))
+  words-crossed start y x a b = a ∙ as-words start y ∙ ap (words_by start) (b ∙ ap reply_of step-crossed)
 
-  list_of : (s : model.Store) (y : Listed) (out : List ℕ) → of_listed y ≡ list_by (list_told s y out).reply
-  list_of s (listed.Count c) out = ap places (sym (stretch-length out 0 c))
-  list_of s (listed.No k) out = refl
+  as-list : (s : model.Store) (y : std.Result ℕ Refusal) (out : List ℕ) → of_listed y ≡ list_by (list_told s y out).reply
+  as-list s (Ok c) out = ap places (sym (stretch-length out 0 c))
+  as-list s (Err k) out = refl
 
-  left-of : (s : model.Store) (y : Listed) (out : List ℕ) → out ≡ (list_told s y out).after.answers
-  left-of s (listed.Count c) out = refl
-  left-of s (listed.No k) out = refl
+  left-of : (s : model.Store) (y : std.Result ℕ Refusal) (out : List ℕ) → out ≡ (list_told s y out).after.answers
+  left-of s (Ok c) out = refl
+  left-of s (Err k) out = refl
 
-  pub list-crossed : (s : model.Store) (y : Listed) (x : PlainList) (out : List ℕ) → x ≡ of_listed y → list_told s y out ≡ result_of (f d) (step o (f d))
+  pub list-crossed : (s : model.Store) (y : std.Result ℕ Refusal) (x : PlainList) (out : List ℕ) → x ≡ of_listed y → list_told s y out ≡ result_of (f d) (step o (f d))
       → (x ≡ list_by (result_of (f (numbers_of p)) (crossing p o (f (numbers_of p)))).reply) × (out ≡ (result_of (f (numbers_of p)) (crossing p o (f (numbers_of p)))).after.answers)
   list-crossed s y x out a b =
       let q : list_told s y out ≡ result_of (f (numbers_of p)) (crossing p o (f (numbers_of p))) = b ∙ left-crossed in
-      (a ∙ list_of s y out ∙ ap (λ (r : Result). list_by r.reply) q, left-of s y out ∙ ap (λ (r : Result). r.after.answers) q)
+      (a ∙ as-list s y out ∙ ap (λ (r : Result). list_by r.reply) q, left-of s y out ∙ ap (λ (r : Result). r.after.answers) q)
 
-  -- a change leaves the store over the new head, or over the old one
-  module _ (left : Numbers → model.Store) (over : (z : Numbers) → (left z).head ≡ head_of z) where
-    by-change : (y : Changed) (x : PlainChanged) (r : Result) → x ≡ of_changed p y → changed_told d (inside y) left ≡ r → Crossed p x r (λ z. full_of (left z) [])
-    by-change (changed.Done g) x r a b =
+  -- a change leaves the store over the head g; refused, that is the one that crossed
+  module _ (left : Numbers → model.Store) (over : (z : Numbers) → (left z).head ≡ head_of z) (under : (f d).store.head ≡ head_of d) (g : Numbers) where
+    as-it-was : (j : Refusal) → change_told {A = Unit {0}} (Err j) (left g) ≡ result_of (f d) (step o (f d)) → g ≡ d
+    as-it-was j b = same_head g d (sym (over g) ∙ ap (λ (t : model.Store). t.head) (refused-keeps (step o (f d)) (f d) (left g) j b) ∙ under)
+
+    by-change : (y : std.Result (Unit {0}) Refusal) (x : PlainChanged) (r : Result) → (std.IsErr y → g ≡ d) → x ≡ of_changed p g y → change_told y (left g) ≡ r → Crossed p x r (λ z. full_of (left z) [])
+    by-change (Ok u) x r k a b =
         record {
-          told = a ∙ ap (λ (m : model.Head). changed_by p (ok []) m) (sym (over g.0)) ∙ ap (λ (t : Result). changed_by p t.reply t.after.store.head) b;
-          kept = ap (λ (t : PlainChanged). full_of (left (numbers_of t.head)) []) a ∙ ap (λ (z : Numbers). full_of (left z) []) (there_and_back g.0) ∙ ap (λ (t : Result). t.after) b;
+          told = a ∙ ap (λ (m : model.Head). changed_by p (ok []) m) (sym (over g)) ∙ ap (λ (t : Result). changed_by p t.reply t.after.store.head) b;
+          kept = ap (λ (t : PlainChanged). full_of (left (numbers_of t.head)) []) a ∙ ap (λ (z : Numbers). full_of (left z) []) (there_and_back g) ∙ ap (λ (t : Result). t.after) b;
         }
-    by-change (changed.No k) x r a b =
+    by-change (Err j) x r k a b =
         record {
           told = a ∙ ap (λ (t : Result). changed_by p t.reply t.after.store.head) b;
-          kept = ap (λ (t : PlainChanged). full_of (left (numbers_of t.head)) []) a ∙ ap (λ (z : Numbers). full_of (left z) []) (sym e) ∙ ap (λ (t : Result). t.after) b;
+          kept = ap (λ (t : PlainChanged). full_of (left (numbers_of t.head)) []) a ∙ ap (λ (z : Numbers). full_of (left z) []) (sym (k tt ∙ e)) ∙ ap (λ (t : Result). t.after) b;
         }
 
-    pub change-crossed : (y : Changed) (x : PlainChanged) → x ≡ of_changed p y → changed_told d (inside y) left ≡ result_of (f d) (step o (f d))
+    pub change-crossed : (y : std.Result (Unit {0}) Refusal) (x : PlainChanged) → x ≡ of_changed p g y → change_told y (left g) ≡ result_of (f d) (step o (f d))
         → Crossed p x (result_of (f (numbers_of p)) (crossing p o (f (numbers_of p)))) (λ z. full_of (left z) [])
-    change-crossed y x a b = by-change y x (result_of (f (numbers_of p)) (crossing p o (f (numbers_of p)))) a (b ∙ left-crossed)
+    change-crossed (Ok u) x a b = by-change (Ok u) x (result_of (f (numbers_of p)) (crossing p o (f (numbers_of p)))) (λ n. absurd n) a (b ∙ left-crossed)
+    change-crossed (Err j) x a b = by-change (Err j) x (result_of (f (numbers_of p)) (crossing p o (f (numbers_of p)))) (λ n. as-it-was j b) a (b ∙ left-crossed)
 
 -- ---- which step is the host's
 pub whole-head : (p : PlainHead) (o : Op) (f : model.Full) → p.on ≤ 1 → step o f ≡ crossing p o f
@@ -158,22 +166,22 @@ module _ (p : PlainHead) (s out : List ℕ) where
       none = rw (lt-leb p.on 1 h)
 
   module _ (f : Numbers → model.Full) (d : Numbers) (e : d ≡ numbers_of p) (h : p.on ≤ 1) (left : Numbers → model.Full) (over : (z : Numbers) → (left z).store.head ≡ head_of z) (lines : List ℕ) where
-    by-run : (y : Ran) (x : PlainRan) (r : Left) → x ≡ of_ran p y → ran_told d y left lines ≡ r → RunCrossed p x r left lines
-    by-run (ran.Done g) x r a b =
+    by-run : (g : Numbers) (y : std.Result Stand Refusal) (x : PlainRan) (r : Left) → (std.IsErr y → g ≡ d) → x ≡ of_ran p g y → ran_told y (left g) lines ≡ r → RunCrossed p x r left lines
+    by-run g (Ok u) x r k a b =
         record {
-          told = a ∙ ap (λ (m : model.Head). ran_by p (ran_told d (ran.Done g) left lines).reply m) (sym (over g.head.0)) ∙ ap (λ (t : Left). ran_by p t.reply t.after.store.head) b;
-          kept = ap (λ (t : PlainRan). left (numbers_of t.head)) a ∙ ap left (there_and_back g.head.0) ∙ ap (λ (t : Left). t.after) b;
+          told = a ∙ ap (λ (m : model.Head). ran_by p (ran_told (Ok u) (left g) lines).reply m) (sym (over g)) ∙ ap (λ (t : Left). ran_by p t.reply t.after.store.head) b;
+          kept = ap (λ (t : PlainRan). left (numbers_of t.head)) a ∙ ap left (there_and_back g) ∙ ap (λ (t : Left). t.after) b;
           written = ap (λ (t : Left). t.lines) b;
         }
-    by-run (ran.No k) x r a b =
+    by-run g (Err j) x r k a b =
         record {
           told = a ∙ ap (λ (t : Left). ran_by p t.reply t.after.store.head) b;
-          kept = ap (λ (t : PlainRan). left (numbers_of t.head)) a ∙ ap left (sym e) ∙ ap (λ (t : Left). t.after) b;
+          kept = ap (λ (t : PlainRan). left (numbers_of t.head)) a ∙ ap left (sym (k tt ∙ e)) ∙ ap (λ (t : Left). t.after) b;
           written = ap (λ (t : Left). t.lines) b;
         }
 
-    pub run-crossed : (y : Ran) (x : PlainRan) → x ≡ of_ran p y → ran_told d y left lines ≡ run_of s out (f d) → RunCrossed p x (running p s out (f (numbers_of p))) left lines
-    run-crossed y x a b = by-run y x (running p s out (f (numbers_of p))) a (b ∙ ap (λ (z : Numbers). run_of s out (f z)) e ∙ same)
+    pub run-crossed : (g : Numbers) (y : std.Result Stand Refusal) (x : PlainRan) → (std.IsErr y → g ≡ d) → x ≡ of_ran p g y → ran_told y (left g) lines ≡ run_of s out (f d) → RunCrossed p x (running p s out (f (numbers_of p))) left lines
+    run-crossed g y x k a b = by-run g y x (running p s out (f (numbers_of p))) k a (b ∙ ap (λ (z : Numbers). run_of s out (f z)) e ∙ same)
       where
         same : run_of s out (f (numbers_of p)) ≡ running p s out (f (numbers_of p))
         same = rw (le-leb p.on 1 h)

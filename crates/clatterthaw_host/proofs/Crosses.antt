@@ -9,17 +9,9 @@ use lib.ListN.{length, get_or, get_or-eq_default}
 use Rattle.laws.specs.Plain.{num}
 use Rattle.laws.specs.Words.{words_for}
 use Rattle.store_head.specs.declared.Numbers.{Numbers}
-use Rattle.sparse_matrix.specs.declared.Head.{Head}
-use Rattle.sparse_matrix.specs.declared.Changed.{Changed}
-use Rattle.sparse_matrix.specs.declared.Changed.TheVariants as changed
-use Rattle.script.specs.declared.Stand.{Stand}
-use Rattle.script.specs.declared.Ran.{Ran}
-use Rattle.script.specs.declared.Ran.TheVariants as ran
 use Rattle.clatterthaw_host.specs.declared.PlainHead.{PlainHead}
-use Rattle.clatterthaw_host.specs.declared.PlainChanged.{PlainChanged}
-use Rattle.clatterthaw_host.specs.declared.PlainRan.{PlainRan}
 use Rattle.clatterthaw_host.specs.Crossing.{numbers_of}
-use Rattle.clatterthaw_host.specs.Told.{plain_numbers, of_changed, of_ran}
+use Rattle.clatterthaw_host.specs.Told.{plain_numbers}
 
 -- ---- a head that crosses is the same head
 switched : (d : Numbers) (b : Bool) → ◌≡◌ {A = Numbers} (numbers_of (record { h = d.h; w = d.w; n = d.n; slots = d.slots; made = d.made; on = num b })) (record { h = d.h; w = d.w; n = d.n; slots = d.slots; made = d.made; on = b })
@@ -31,13 +23,6 @@ there_and_back d = switched d d.on
 
 pub plain-is : (d : Numbers) (b : Bool) → d.on ≡ b → ◌≡◌ {A = PlainHead} (record { h = d.h; w = d.w; n = d.n; slots = d.slots; made = d.made; on = num b }) (plain_numbers d)
 plain-is d b e = rw e
-
--- ---- what is done crosses with its head
-pub done-changed : (p : PlainHead) (x : Changed) (d : Head) → x ≡ changed.Done d → (q : PlainHead) → q ≡ plain_numbers d.0 → ◌≡◌ {A = PlainChanged} (record { head = q; no = 0 }) (of_changed p x)
-done-changed p x d e q f = rw (e, f)
-
-pub done-ran : (p : PlainHead) (x : Ran) (s : Stand) → x ≡ ran.Done s → (q : PlainHead) → q ≡ plain_numbers s.head.0 → ◌≡◌ {A = PlainRan} (record { head = q; no = 0; done = s.done; written = s.written }) (of_ran p x)
-done-ran p x s e q f = rw (e, f)
 
 -- ---- where a row's part of the words begins
 pub start-past : (homes : List ℕ) (r n : ℕ) → length homes ≤ r → 0 ≡ get_or homes r 0 * words_for n

@@ -1,17 +1,12 @@
 -- Each answer of the store as a host's numbers. Assumes nothing.
-use Rattle.std.specs.Prelude.{ℕ}
+use Rattle.std.specs.Prelude.{List, ℕ, ◌^◌, ◌<◌, length, Result, Ok, Err}
+use Rattle.std.specs.Borrow.{Bor}
 use Rattle.store_head.specs.declared.Numbers.{Numbers}
-use Rattle.store_head.specs.declared.Number.{Number}
-use Rattle.store_head.specs.declared.Number.TheVariants as numbered
-use Rattle.store_head.specs.declared.Listed.{Listed}
-use Rattle.store_head.specs.declared.Listed.TheVariants as listed
-use Rattle.store_head.specs.declared.Sized.{Sized}
-use Rattle.store_head.specs.declared.Sized.TheVariants as sized
+use Rattle.store_head.specs.declared.Size.{Size}
+use Rattle.store_head.specs.declared.refusal.Refusal.{Refusal}
 use Rattle.store_head.specs.Lent.{head_of}
-use Rattle.sparse_matrix.specs.declared.Changed.{Changed}
-use Rattle.sparse_matrix.specs.declared.Changed.TheVariants as changed
-use Rattle.script.specs.declared.Ran.{Ran}
-use Rattle.script.specs.declared.Ran.TheVariants as ran
+use Rattle.store_head.specs.Refused.{number_of}
+use Rattle.script.specs.declared.Stand.{Stand}
 use Rattle.clatterthaw_host.specs.declared.PlainHead.{PlainHead}
 use Rattle.clatterthaw_host.specs.declared.PlainChanged.{PlainChanged}
 use Rattle.clatterthaw_host.specs.declared.PlainNumber.{PlainNumber}
@@ -24,26 +19,31 @@ use Rattle.clatterthaw_host.specs.Crossing.{plain_of}
 abbrev pub plain_numbers : Numbers → PlainHead
 plain_numbers d = plain_of (head_of d)
 
-abbrev pub of_number : Number → PlainNumber
-of_number (numbered.Is x) = record { no = 0; value = x }
-of_number (numbered.No k) = record { no = k; value = 0 }
+abbrev pub of_number : Result ℕ Refusal → PlainNumber
+of_number (Ok x) = record { no = 0; value = x }
+of_number (Err k) = record { no = number_of k; value = 0 }
 
-abbrev pub of_sized : Sized → PlainSize
-of_sized (sized.Is p) = record { no = 0; h = p.h; w = p.w; n = p.n }
-of_sized (sized.No k) = record { no = k; h = 0; w = 0; n = 0 }
+abbrev pub of_sized : Result Size Refusal → PlainSize
+of_sized (Ok p) = record { no = 0; h = p.h; w = p.w; n = p.n }
+of_sized (Err k) = record { no = number_of k; h = 0; w = 0; n = 0 }
 
-abbrev pub of_listed : Listed → PlainList
-of_listed (listed.Count c) = record { no = 0; count = c }
-of_listed (listed.No k) = record { no = k; count = 0 }
+abbrev pub of_listed : Result ℕ Refusal → PlainList
+of_listed (Ok c) = record { no = 0; count = c }
+of_listed (Err k) = record { no = number_of k; count = 0 }
 
-abbrev pub of_words : ℕ → Number → PlainWords
-of_words at (numbered.Is c) = record { no = 0; count = c; start = at }
-of_words at (numbered.No k) = record { no = k; count = 0; start = 0 }
+abbrev pub of_words : ℕ → Result (Bor (List ℕ)) Refusal → PlainWords
+of_words at (Ok ws) = record { no = 0; count = length ws.now; start = at }
+of_words at (Err k) = record { no = number_of k; count = 0; start = 0 }
 
-abbrev pub of_changed : PlainHead → Changed → PlainChanged
-of_changed p (changed.Done d) = record { head = plain_numbers d.0; no = 0 }
-of_changed p (changed.No k) = record { head = p; no = k }
+-- a row's words are few
+abbrev pub FewWords : Result (Bor (List ℕ)) Refusal → Type 0
+FewWords (Ok ws) = length ws.now < 2 ^ 32
+FewWords (Err k) = Unit {0}
 
-abbrev pub of_ran : PlainHead → Ran → PlainRan
-of_ran p (ran.Done s) = record { head = plain_numbers s.head.0; no = 0; done = s.done; written = s.written }
-of_ran p (ran.No k) = record { head = p; no = k; done = 0; written = 0 }
+abbrev pub of_changed : PlainHead → Numbers → Result (Unit {0}) Refusal → PlainChanged
+of_changed p d (Ok x) = record { head = plain_numbers d; no = 0 }
+of_changed p d (Err k) = record { head = p; no = number_of k }
+
+abbrev pub of_ran : PlainHead → Numbers → Result Stand Refusal → PlainRan
+of_ran p d (Ok s) = record { head = plain_numbers d; no = 0; done = s.done; written = s.written }
+of_ran p d (Err k) = record { head = p; no = number_of k; done = 0; written = 0 }

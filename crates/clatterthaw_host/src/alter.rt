@@ -6,7 +6,10 @@ ghost use Rattle.store_head.specs.Lent.{store_of, full_of};
 ghost use Rattle.clatterthaw_host.specs.Crossing.{numbers_of, crossing, Crossed};
 
 use crate::{PlainChanged, PlainHead, cross};
-use store_head::refusals;
+use store_head::{
+    CellsMut, ColumnMapsMut, IndexMut, Refusal, RowMapsMut, ShapeMut, StoreMut, SumMut,
+};
+use table::Sizes;
 
 // MAKE: an h by w store whose last n columns are the tail, all zero, with `per_row` slots for each row; it asks for no store before it.
 #[unsafe(no_mangle)]
@@ -29,7 +32,8 @@ pub extern "C" fn clatterthaw_make(
 ) -> PlainChanged
     ensures { Crossed p result (result_of (full_of (store_of (numbers_of p) slots.old counts.old row_homes.old row_logicals.old column_homes.old column_logicals.old marks.old starts.old entries.old words.old) []) (crossing p (op.Make (record { h = h; w = w; n = n; slots = per_row })) (full_of (store_of (numbers_of p) slots.old counts.old row_homes.old row_logicals.old column_homes.old column_logicals.old marks.old starts.old entries.old words.old) []))) (λ e. full_of (store_of e slots.new counts.new row_homes.new row_logicals.new column_homes.new column_logicals.new marks.new starts.new entries.new words.new) []) }
 {
-    let x = cross::head(p).new(
+    let mut store = StoreMut {
+        head: cross::head(p),
         slots,
         counts,
         row_homes,
@@ -40,12 +44,15 @@ pub extern "C" fn clatterthaw_make(
         starts,
         entries,
         words,
+    };
+    let sizes = Sizes {
         h,
         w,
         n,
-        per_row,
-    );
-    cross::changed(p, x)
+        slots: per_row,
+    };
+    let told = sparse_matrix::new(&mut store, sizes);
+    cross::changed(p, store.head, told)
 }
 
 // SET: cell r, c becomes one, or zero where v is 0.
@@ -71,10 +78,11 @@ pub extern "C" fn clatterthaw_set(
     if 1 < p.on {
         return PlainChanged {
             head: p,
-            no: refusals::DAMAGED,
+            no: Refusal::Damaged.number(),
         };
     }
-    let x = cross::head(p).set(
+    let mut store = CellsMut {
+        head: cross::head(p),
         slots,
         counts,
         row_homes,
@@ -85,11 +93,9 @@ pub extern "C" fn clatterthaw_set(
         starts,
         entries,
         words,
-        r,
-        c,
-        v,
-    );
-    cross::changed(p, x)
+    };
+    let told = sparse_matrix::set(&mut store, r, c, v);
+    cross::changed(p, store.head, told)
 }
 
 // SWAPR: rows i and j are exchanged.
@@ -114,10 +120,11 @@ pub extern "C" fn clatterthaw_swap_rows(
     if 1 < p.on {
         return PlainChanged {
             head: p,
-            no: refusals::DAMAGED,
+            no: Refusal::Damaged.number(),
         };
     }
-    let x = cross::head(p).swap_rows(
+    let mut store = RowMapsMut {
+        head: cross::head(p),
         slots,
         counts,
         row_homes,
@@ -128,10 +135,9 @@ pub extern "C" fn clatterthaw_swap_rows(
         starts,
         entries,
         words,
-        i,
-        j,
-    );
-    cross::changed(p, x)
+    };
+    let told = sparse_matrix::swap_rows(&mut store, i, j);
+    cross::changed(p, store.head, told)
 }
 
 // SWAPC: columns i and j are exchanged.
@@ -156,10 +162,11 @@ pub extern "C" fn clatterthaw_swap_columns(
     if 1 < p.on {
         return PlainChanged {
             head: p,
-            no: refusals::DAMAGED,
+            no: Refusal::Damaged.number(),
         };
     }
-    let x = cross::head(p).swap_columns(
+    let mut store = ColumnMapsMut {
+        head: cross::head(p),
         slots,
         counts,
         row_homes,
@@ -170,10 +177,9 @@ pub extern "C" fn clatterthaw_swap_columns(
         starts,
         entries,
         words,
-        i,
-        j,
-    );
-    cross::changed(p, x)
+    };
+    let told = sparse_matrix::swap_columns(&mut store, i, j);
+    cross::changed(p, store.head, told)
 }
 
 // ADD: row s is added to row d.
@@ -199,10 +205,11 @@ pub extern "C" fn clatterthaw_add(
     if 1 < p.on {
         return PlainChanged {
             head: p,
-            no: refusals::DAMAGED,
+            no: Refusal::Damaged.number(),
         };
     }
-    let x = cross::head(p).add_assign_rows(
+    let mut store = SumMut {
+        head: cross::head(p),
         slots,
         counts,
         row_homes,
@@ -213,11 +220,9 @@ pub extern "C" fn clatterthaw_add(
         starts,
         entries,
         words,
-        d,
-        s,
-        start,
-    );
-    cross::changed(p, x)
+    };
+    let told = sparse_matrix::add_assign_rows(&mut store, d, s, start);
+    cross::changed(p, store.head, told)
 }
 
 // ON: the column index is built.
@@ -240,10 +245,11 @@ pub extern "C" fn clatterthaw_on(
     if 1 < p.on {
         return PlainChanged {
             head: p,
-            no: refusals::DAMAGED,
+            no: Refusal::Damaged.number(),
         };
     }
-    let x = cross::head(p).enable_column_access_acceleration(
+    let mut store = IndexMut {
+        head: cross::head(p),
         slots,
         counts,
         row_homes,
@@ -254,8 +260,9 @@ pub extern "C" fn clatterthaw_on(
         starts,
         entries,
         words,
-    );
-    cross::changed(p, x)
+    };
+    let told = sparse_matrix::enable_column_access_acceleration(&mut store);
+    cross::changed(p, store.head, told)
 }
 
 // OFF: the column index is dropped.
@@ -278,10 +285,11 @@ pub extern "C" fn clatterthaw_off(
     if 1 < p.on {
         return PlainChanged {
             head: p,
-            no: refusals::DAMAGED,
+            no: Refusal::Damaged.number(),
         };
     }
-    let x = cross::head(p).disable_column_access_acceleration(
+    let mut store = IndexMut {
+        head: cross::head(p),
         slots,
         counts,
         row_homes,
@@ -292,8 +300,9 @@ pub extern "C" fn clatterthaw_off(
         starts,
         entries,
         words,
-    );
-    cross::changed(p, x)
+    };
+    let told = sparse_matrix::disable_column_access_acceleration(&mut store);
+    cross::changed(p, store.head, told)
 }
 
 // FREEZE: column c, the last sparse one, joins the tail.
@@ -317,10 +326,11 @@ pub extern "C" fn clatterthaw_freeze(
     if 1 < p.on {
         return PlainChanged {
             head: p,
-            no: refusals::DAMAGED,
+            no: Refusal::Damaged.number(),
         };
     }
-    let x = cross::head(p).hint_column_dense_and_frozen(
+    let mut store = CellsMut {
+        head: cross::head(p),
         slots,
         counts,
         row_homes,
@@ -331,9 +341,9 @@ pub extern "C" fn clatterthaw_freeze(
         starts,
         entries,
         words,
-        c,
-    );
-    cross::changed(p, x)
+    };
+    let told = sparse_matrix::hint_column_dense_and_frozen(&mut store, c);
+    cross::changed(p, store.head, told)
 }
 
 // RESIZE: the matrix shrinks to h by w.
@@ -358,10 +368,11 @@ pub extern "C" fn clatterthaw_resize(
     if 1 < p.on {
         return PlainChanged {
             head: p,
-            no: refusals::DAMAGED,
+            no: Refusal::Damaged.number(),
         };
     }
-    let x = cross::head(p).resize(
+    let mut store = ShapeMut {
+        head: cross::head(p),
         slots,
         counts,
         row_homes,
@@ -372,8 +383,7 @@ pub extern "C" fn clatterthaw_resize(
         starts,
         entries,
         words,
-        h,
-        w,
-    );
-    cross::changed(p, x)
+    };
+    let told = sparse_matrix::resize(&mut store, h, w);
+    cross::changed(p, store.head, told)
 }

@@ -8,7 +8,7 @@ ghost use Rattle.store_head.specs.Lent.{store_of, full_of};
 ghost use Rattle.clatterthaw_host.specs.Crossing.{numbers_of, crossing, number_by, size_by, list_by, words_by};
 
 use crate::{PlainHead, PlainList, PlainNumber, PlainSize, PlainWords, cross};
-use store_head::refusals;
+use store_head::{Refusal, Store};
 
 // SIZE: height, width and tail.
 #[unsafe(no_mangle)]
@@ -29,13 +29,14 @@ pub extern "C" fn clatterthaw_size(
 {
     if 1 < p.on {
         return PlainSize {
-            no: refusals::DAMAGED,
+            no: Refusal::Damaged.number(),
             h: 0,
             w: 0,
             n: 0,
         };
     }
-    let x = cross::head(p).size(
+    let store = Store {
+        head: cross::head(p),
         slots,
         counts,
         row_homes,
@@ -46,8 +47,8 @@ pub extern "C" fn clatterthaw_size(
         starts,
         entries,
         words,
-    );
-    cross::size(x)
+    };
+    cross::size(sparse_matrix::size(&store))
 }
 
 // GET: the bit in row r and column c.
@@ -71,11 +72,12 @@ pub extern "C" fn clatterthaw_get(
 {
     if 1 < p.on {
         return PlainNumber {
-            no: refusals::DAMAGED,
+            no: Refusal::Damaged.number(),
             value: 0,
         };
     }
-    let x = cross::head(p).get(
+    let store = Store {
+        head: cross::head(p),
         slots,
         counts,
         row_homes,
@@ -86,10 +88,8 @@ pub extern "C" fn clatterthaw_get(
         starts,
         entries,
         words,
-        r,
-        c,
-    );
-    cross::number(x)
+    };
+    cross::number(sparse_matrix::get(&store, r, c))
 }
 
 // COUNT: how many of the sparse columns a to b-1 hold one in row r.
@@ -114,11 +114,12 @@ pub extern "C" fn clatterthaw_count(
 {
     if 1 < p.on {
         return PlainNumber {
-            no: refusals::DAMAGED,
+            no: Refusal::Damaged.number(),
             value: 0,
         };
     }
-    let x = cross::head(p).count_ones(
+    let store = Store {
+        head: cross::head(p),
         slots,
         counts,
         row_homes,
@@ -129,11 +130,8 @@ pub extern "C" fn clatterthaw_count(
         starts,
         entries,
         words,
-        r,
-        a,
-        b,
-    );
-    cross::number(x)
+    };
+    cross::number(sparse_matrix::count_ones(&store, r, a, b))
 }
 
 // ITER: the columns a to b-1 that hold one in row r, by rising home number, in the first answer places.
@@ -159,11 +157,12 @@ pub extern "C" fn clatterthaw_iter(
 {
     if 1 < p.on {
         return PlainList {
-            no: refusals::DAMAGED,
+            no: Refusal::Damaged.number(),
             count: 0,
         };
     }
-    let x = cross::head(p).get_row_iter(
+    let store = Store {
+        head: cross::head(p),
         slots,
         counts,
         row_homes,
@@ -174,12 +173,8 @@ pub extern "C" fn clatterthaw_iter(
         starts,
         entries,
         words,
-        answers,
-        r,
-        a,
-        b,
-    );
-    cross::list(x)
+    };
+    cross::list(sparse_matrix::get_row_iter(&store, answers, r, a, b))
 }
 
 // TAILONES: the tail columns that hold one in row r, in the first answer places; a is the first tail column.
@@ -204,11 +199,12 @@ pub extern "C" fn clatterthaw_tail_ones(
 {
     if 1 < p.on {
         return PlainList {
-            no: refusals::DAMAGED,
+            no: Refusal::Damaged.number(),
             count: 0,
         };
     }
-    let x = cross::head(p).query_non_zero_columns(
+    let store = Store {
+        head: cross::head(p),
         slots,
         counts,
         row_homes,
@@ -219,11 +215,8 @@ pub extern "C" fn clatterthaw_tail_ones(
         starts,
         entries,
         words,
-        answers,
-        r,
-        a,
-    );
-    cross::list(x)
+    };
+    cross::list(sparse_matrix::query_non_zero_columns(&store, answers, r, a))
 }
 
 // COLONES: the rows a to b-1 that hold one in column c, in the first answer places.
@@ -249,11 +242,12 @@ pub extern "C" fn clatterthaw_column_ones(
 {
     if 1 < p.on {
         return PlainList {
-            no: refusals::DAMAGED,
+            no: Refusal::Damaged.number(),
             count: 0,
         };
     }
-    let x = cross::head(p).get_ones_in_column(
+    let store = Store {
+        head: cross::head(p),
         slots,
         counts,
         row_homes,
@@ -264,12 +258,8 @@ pub extern "C" fn clatterthaw_column_ones(
         starts,
         entries,
         words,
-        answers,
-        c,
-        a,
-        b,
-    );
-    cross::list(x)
+    };
+    cross::list(sparse_matrix::get_ones_in_column(&store, answers, c, a, b))
 }
 
 // WORDS: where the words of row r's tail stand in the lent words; a is the first tail column.
@@ -293,12 +283,13 @@ pub extern "C" fn clatterthaw_words(
 {
     if 1 < p.on {
         return PlainWords {
-            no: refusals::DAMAGED,
+            no: Refusal::Damaged.number(),
             count: 0,
             start: 0,
         };
     }
-    let x = cross::head(p).get_sub_row(
+    let store = Store {
+        head: cross::head(p),
         slots,
         counts,
         row_homes,
@@ -309,9 +300,7 @@ pub extern "C" fn clatterthaw_words(
         starts,
         entries,
         words,
-        r,
-        a,
-    );
+    };
     let start = cross::part_start(row_homes, p.n, r);
-    cross::words(x, start)
+    cross::words(sparse_matrix::get_sub_row(&store, r, a), start)
 }

@@ -2,65 +2,61 @@
 ghost use Rattle.std.specs.Prelude.{◌≡◌, ◌*◌, get_or};
 ghost use Rattle.laws.specs.Words.{words_for};
 ghost use Rattle.clatterthaw_host.specs.Crossing.{numbers_of};
-ghost use Rattle.clatterthaw_host.specs.Told.{plain_numbers, of_number, of_sized, of_listed, of_words, of_changed, of_ran};
+ghost use Rattle.clatterthaw_host.specs.Told.{plain_numbers, of_number, of_sized, of_listed, of_words, of_changed, of_ran, FewWords};
 
 use crate::{PlainChanged, PlainHead, PlainList, PlainNumber, PlainRan, PlainSize, PlainWords};
-use script::Ran;
-use sparse_matrix::{Changed, Head};
-use store_head::{Listed, Number, Numbers, Sized, places};
+use script::Stand;
+use store_head::{Numbers, Refusal, Size};
 
 // The head that a host's numbers are.
-pub fn head(p: PlainHead) -> Head
-    ensures { result.0 ≡ numbers_of p }
+pub fn head(p: PlainHead) -> Numbers
+    ensures { result ≡ numbers_of p }
 {
-    Head(Numbers {
+    Numbers {
         h: p.h,
         w: p.w,
         n: p.n,
         slots: p.slots,
         made: p.made,
         on: p.on != 0,
-    })
+    }
 }
 
 // A head as a host's numbers.
-fn plain(d: Head) -> PlainHead
-    ensures { result ≡ plain_numbers d.0 }
+fn plain(d: Numbers) -> PlainHead
+    ensures { result ≡ plain_numbers d }
 {
-    let on = if d.0.on { 1 } else { 0 };
     PlainHead {
-        h: d.0.h,
-        w: d.0.w,
-        n: d.0.n,
-        slots: d.0.slots,
-        made: d.0.made,
-        on: on,
+        h: d.h,
+        w: d.w,
+        n: d.n,
+        slots: d.slots,
+        made: d.made,
+        on: u32::from(d.on),
     }
 }
 
 // GET, COUNT.
-pub fn number(x: Number) -> PlainNumber
+pub fn number(x: Result<u32, Refusal>) -> PlainNumber
     ensures { result ≡ of_number x }
 {
     match x {
-        Number::Is(v) => PlainNumber { no: 0, value: v },
-        Number::No(k) => PlainNumber { no: k, value: 0 },
+        Ok(value) => PlainNumber { no: 0, value },
+        Err(k) => PlainNumber {
+            no: k.number(),
+            value: 0,
+        },
     }
 }
 
 // SIZE.
-pub fn size(x: Sized) -> PlainSize
+pub fn size(x: Result<Size, Refusal>) -> PlainSize
     ensures { result ≡ of_sized x }
 {
     match x {
-        Sized::Is(p) => PlainSize {
-            no: 0,
-            h: p.h,
-            w: p.w,
-            n: p.n,
-        },
-        Sized::No(k) => PlainSize {
-            no: k,
+        Ok(Size { h, w, n }) => PlainSize { no: 0, h, w, n },
+        Err(k) => PlainSize {
+            no: k.number(),
             h: 0,
             w: 0,
             n: 0,
@@ -69,27 +65,31 @@ pub fn size(x: Sized) -> PlainSize
 }
 
 // ITER, TAILONES, COLONES.
-pub fn list(x: Listed) -> PlainList
+pub fn list(x: Result<u32, Refusal>) -> PlainList
     ensures { result ≡ of_listed x }
 {
     match x {
-        Listed::Count(c) => PlainList { no: 0, count: c },
-        Listed::No(k) => PlainList { no: k, count: 0 },
+        Ok(count) => PlainList { no: 0, count },
+        Err(k) => PlainList {
+            no: k.number(),
+            count: 0,
+        },
     }
 }
 
 // WORDS, whose part begins at `start`.
-pub fn words(x: Number, start: usize) -> PlainWords
-    ensures { result ≡ of_words start x }
+pub fn words(x: Result<&[u64], Refusal>, start: usize) -> PlainWords
+    requires { FewWords x }
+    ensures { result ≡ of_words start x.entry }
 {
     match x {
-        Number::Is(c) => PlainWords {
+        Ok(part) => PlainWords {
             no: 0,
-            count: c,
-            start: start,
+            count: part.len() as u32,
+            start,
         },
-        Number::No(k) => PlainWords {
-            no: k,
+        Err(k) => PlainWords {
+            no: k.number(),
             count: 0,
             start: 0,
         },
@@ -104,37 +104,40 @@ pub fn part_start(row_homes: &[u32], n: u32, r: u32) -> usize
     if row_homes.len() <= at {
         return 0;
     }
-    let y = places::place(row_homes[at]);
+    let y = row_homes[at] as usize;
     y * tail::words_for(n)
 }
 
-// What a change leaves of the head p.
-pub fn changed(p: PlainHead, x: Changed) -> PlainChanged
-    ensures { result ≡ of_changed p x }
+// What a change leaves of the head p: `d` where it is done.
+pub fn changed(p: PlainHead, d: Numbers, told: Result<(), Refusal>) -> PlainChanged
+    ensures { result ≡ of_changed p d told }
 {
-    match x {
-        Changed::Done(d) => PlainChanged {
+    match told {
+        Ok(()) => PlainChanged {
             head: plain(d),
             no: 0,
         },
-        Changed::No(k) => PlainChanged { head: p, no: k },
+        Err(k) => PlainChanged {
+            head: p,
+            no: k.number(),
+        },
     }
 }
 
-// What a run leaves of the head p.
-pub fn ran(p: PlainHead, x: Ran) -> PlainRan
-    ensures { result ≡ of_ran p x }
+// What a run leaves of the head p: `d` where it is not refused.
+pub fn ran(p: PlainHead, d: Numbers, told: Result<Stand, Refusal>) -> PlainRan
+    ensures { result ≡ of_ran p d told }
 {
-    match x {
-        Ran::Done(s) => PlainRan {
-            head: plain(s.head),
+    match told {
+        Ok(Stand { done, written }) => PlainRan {
+            head: plain(d),
             no: 0,
-            done: s.done,
-            written: s.written,
+            done,
+            written,
         },
-        Ran::No(k) => PlainRan {
+        Err(k) => PlainRan {
             head: p,
-            no: k,
+            no: k.number(),
             done: 0,
             written: 0,
         },

@@ -3,7 +3,7 @@ ghost use Rattle.store_head.specs.Lent.{store_of, full_of};
 ghost use Rattle.clatterthaw_host.specs.Crossing.{numbers_of, running, RunCrossed};
 
 use crate::{PlainHead, PlainRan, cross};
-use store_head::refusals;
+use store_head::{Refusal, StoreMut};
 
 // The run: script records over the store, a line for each into the lent line bytes. It checks the store once, and stops before the first record whose line
 // would not fit.
@@ -29,14 +29,13 @@ pub extern "C" fn clatterthaw_run(
     if 1 < p.on {
         return PlainRan {
             head: p,
-            no: refusals::DAMAGED,
+            no: Refusal::Damaged.number(),
             done: 0,
             written: 0,
         };
     }
-    let d = cross::head(p);
-    let x = script::run(
-        d,
+    let mut store = StoreMut {
+        head: cross::head(p),
         slots,
         counts,
         row_homes,
@@ -47,9 +46,7 @@ pub extern "C" fn clatterthaw_run(
         starts,
         entries,
         words,
-        answers,
-        records,
-        lines,
-    );
-    cross::ran(p, x)
+    };
+    let told = script::run(&mut store, answers, records, lines);
+    cross::ran(p, store.head, told)
 }

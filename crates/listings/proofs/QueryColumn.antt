@@ -1,5 +1,5 @@
 -- COLONES: what each way out leaves and says, and that the definition says the same. Assumes nothing.
-use mathlib.Core.Path.{◌≡◌, sym, ◌∙◌}
+use mathlib.Core.Path.{◌≡◌, refl, sym, ◌∙◌}
 use mathlib.Core.Bool.{Bool, true, false, not, ◌&&◌}
 use mathlib.Core.List.{List}
 use Prim.Native.Nat.{ℕ, ◌-◌, ◌≤◌, ◌<◌, min}
@@ -13,7 +13,7 @@ use Rattle.laws.specs.Parts.{over, stretch}
 use Rattle.laws.proofs.Bools.{quiet-first, quiet-rest}
 use Rattle.laws.proofs.Select.{count_most}
 use Rattle.arraymap.specs.Index.{list_at}
-use Rattle.arraymap.specs.Show.{mapped, shown, CanAnswer}
+use Rattle.arraymap.specs.Show.{mapped, shown, CanList, CanAnswer}
 use Rattle.table.specs.declared.ColumnRange.{ColumnRange}
 use Rattle.table.specs.declared.Op.TheVariants.{ColOnes}
 use Rattle.table.specs.Step.{checks, answer}
@@ -26,7 +26,7 @@ use Rattle.model.proofs.ColOnes.{colones-means}
 use Rattle.store_head.specs.Lent.{full_of}
 use Rattle.store_head.specs.Refused.{refusal_of}
 use Rattle.store_head.proofs.Refuses.{past}
-use Rattle.store_head.proofs.QueryPlaces.{place_is, list-shows}
+use Rattle.store_head.proofs.QueryPlaces.{place_is, list-in, list-shows}
 use Rattle.listings.proofs.QueryLists.{refuses, lists, listed-is}
 
 pub shown-low : (logical l : List ℕ) (a b k : ℕ) → k ≡ length (shown logical a b l) → k ≤ b
@@ -83,7 +83,7 @@ module _ (p : ColumnRange) (f : Full) where
                 )
 
             module _ (h : n ≤ length f.answers) where
-              pub can-answer : CanAnswer l f.store.rows.homes f.store.rows.logicals f.store.head.h p.a p.b f.answers
+              can-answer : CanAnswer l f.store.rows.homes f.store.rows.logicals f.store.head.h p.a p.b f.answers
               can-answer = record { can = list-shows f.store v p.c q k z hc eq ek ez on l el; room = omega arith }
 
               colones-done : lists (shown f.store.rows.logicals p.a p.b l) f ≡ result_of f (inner (ColOnes p) f)
@@ -121,21 +121,34 @@ module _ (p : ColumnRange) (f : Full) (v : WellFormed f.store) (free : 0 ≡ ref
   pub colones-wide : p.c < f.store.head.w
   colones-wide = leb-false f.store.head.w p.c (quiet-first (leb f.store.head.w p.c) (not (leb (edge f.store) p.c) && (not (not f.store.head.on) && (not spent-too && true))) passed.0)
 
-  pub colones-sparse : p.c < edge f.store
+  colones-sparse : p.c < edge f.store
   colones-sparse = leb-false (edge f.store) p.c (quiet-first (leb (edge f.store) p.c) (not (not f.store.head.on) && (not spent-too && true)) behind-five)
 
-  pub colones-on : f.store.head.on ≡ true
+  colones-on : f.store.head.on ≡ true
   colones-on = not-false f.store.head.on (quiet-first (not f.store.head.on) (not spent-too && true) behind-six)
 
-  pub colones-exact : (q k z : ℕ) → q ≡ p.c → k ≡ home_column f.store q → z ≡ k → get_or f.store.index.marks z 0 ≡ 0
-  colones-exact q k z eq ek ez =
-      rw (home p f colones-wide colones-sparse v colones-on q k z eq ek ez)
-      (eqb-true (get_or f.store.index.marks (home_column f.store p.c) 0) 0
-      (not-false (eqb (get_or f.store.index.marks (home_column f.store p.c) 0) 0)
-      (rw (lt-ltb p.c f.store.head.w colones-wide) at (quiet-first spent-too true (quiet-rest (not f.store.head.on) (not spent-too && true) behind-six)))))
+  -- the column's home k, as a place z
+  module _ (q k z : ℕ) (eq : q ≡ p.c) (ek : k ≡ home_column f.store q) (ez : z ≡ k) where
+    colones-exact : get_or f.store.index.marks z 0 ≡ 0
+    colones-exact =
+        rw (home p f colones-wide colones-sparse v colones-on q k z eq ek ez)
+        (eqb-true (get_or f.store.index.marks (home_column f.store p.c) 0) 0
+        (not-false (eqb (get_or f.store.index.marks (home_column f.store p.c) 0) 0)
+        (rw (lt-ltb p.c f.store.head.w colones-wide) at (quiet-first spent-too true (quiet-rest (not f.store.head.on) (not spent-too && true) behind-six)))))
 
-  pub colones-fits : (q k z : ℕ) (eq : q ≡ p.c) (ek : k ≡ home_column f.store q) (ez : z ≡ k) (l : List ℕ) → l ≡ list_at f.store.index.starts f.store.index.entries z
-      → length (shown f.store.rows.logicals p.a p.b l) ≤ length f.answers
-  colones-fits q k z eq ek ez l el =
-      rw (sym (answer-is p f colones-wide colones-sparse v colones-on q k z eq ek ez (colones-exact q k z eq ek ez) l el))
-      (ltb-false (length f.answers) (length (answer (ColOnes p) (table_of f.store))) (quiet-first (ltb (length f.answers) (length (answer (ColOnes p) (table_of f.store)))) true passed.1))
+    pub colones-gets : CanList f.store.index.starts f.store.index.entries z
+    colones-gets = list-in f.store v p.c q k z colones-sparse eq ek ez colones-on
+
+    module _ (l : List ℕ) (el : l ≡ list_at f.store.index.starts f.store.index.entries z) where
+      colones-fits : length (shown f.store.rows.logicals p.a p.b l) ≤ length f.answers
+      colones-fits =
+          rw (sym (answer-is p f colones-wide colones-sparse v colones-on q k z eq ek ez colones-exact l el))
+          (ltb-false (length f.answers) (length (answer (ColOnes p) (table_of f.store))) (quiet-first (ltb (length f.answers) (length (answer (ColOnes p) (table_of f.store)))) true passed.1))
+
+      pub colones-shows : CanAnswer l f.store.rows.homes f.store.rows.logicals f.store.head.h p.a p.b f.answers
+      colones-shows = can-answer p f colones-wide colones-sparse v colones-on q k z eq ek ez colones-exact l el _ refl colones-fits
+
+      pub colones-told : (i : ℕ) (m : List ℕ)
+          → (i ≡ length (shown f.store.rows.logicals p.a p.b l)) × (m ≡ over (shown f.store.rows.logicals p.a p.b l) f.answers)
+          → record { reply = ok (stretch m 0 i); after = full_of f.store m } ≡ result_of f (inner (ColOnes p) f)
+      colones-told = colones-is p f colones-wide colones-sparse v colones-on q k z eq ek ez colones-exact l el _ refl colones-fits

@@ -1,5 +1,5 @@
 -- ITER and TAILONES: what each way out leaves and says, and that the definition says the same. Assumes nothing.
-use mathlib.Core.Path.{◌≡◌, sym, ap, ◌∙◌}
+use mathlib.Core.Path.{◌≡◌, refl, sym, ap, ◌∙◌}
 use mathlib.Core.Bool.{true, false, not, ◌&&◌, ◌||◌}
 use mathlib.Core.List.{List}
 use Prim.Native.Nat.{ℕ, ◌+◌, ◌-◌, ◌≤◌, ◌<◌}
@@ -30,7 +30,7 @@ use Rattle.model.proofs.Tail.{tail-ones-means}
 use Rattle.store_head.specs.Lent.{full_of}
 use Rattle.store_head.specs.Refused.{refusal_of}
 use Rattle.store_head.proofs.Refuses.{past}
-use Rattle.store_head.proofs.QueryPlaces.{row-mapped, tail-in}
+use Rattle.store_head.proofs.QueryPlaces.{row-mapped, walk-low, tail-in}
 
 -- a refusal leaves all as it was
 abbrev pub refuses : ℕ → Full → Result
@@ -70,7 +70,7 @@ module _ (p : RowRange) (f : Full) where
           )
 
       module _ (k : ℕ) (e : k ≡ length (walked f.store.columns.logicals p.a p.b l)) (h : k ≤ length f.answers) where
-        pub can-walk : CanWalk l f.store.columns.logicals p.a p.b f.answers
+        can-walk : CanWalk l f.store.columns.logicals p.a p.b f.answers
         can-walk = record { mapped = row-mapped f.store v p.r y hr ey l el; room = omega arith }
 
         iter-done : lists (walked f.store.columns.logicals p.a p.b l) f ≡ result_of f (inner (Iter p) f)
@@ -96,15 +96,27 @@ module _ (p : RowRange) (f : Full) (v : WellFormed f.store) (free : 0 ≡ refusa
   pub iter-low : p.r < f.store.head.h
   iter-low = leb-false f.store.head.h p.r (quiet-first (leb f.store.head.h p.r) (not (ltb (edge f.store) p.b) && true) passed.0)
 
-  pub iter-sparse : p.b ≤ edge f.store
+  iter-sparse : p.b ≤ edge f.store
   iter-sparse =
       ltb-false (edge f.store) p.b
       (quiet-first (ltb (edge f.store) p.b) true (quiet-rest (leb f.store.head.h p.r) (not (ltb (edge f.store) p.b) && true) passed.0))
 
-  pub iter-fits : (y : ℕ) (l : List ℕ) → y ≡ home_row f.store p.r → l ≡ row f.store y → length (walked f.store.columns.logicals p.a p.b l) ≤ length f.answers
-  iter-fits y l ey el =
-      rw (sym (walk_is p f iter-low v iter-sparse y l ey el))
-      (ltb-false (length f.answers) (length (answer (Iter p) (table_of f.store))) (quiet-first (ltb (length f.answers) (length (answer (Iter p) (table_of f.store)))) true passed.1))
+  module _ (y : ℕ) (l : List ℕ) (ey : y ≡ home_row f.store p.r) (el : l ≡ row f.store y) where
+    iter-fits : length (walked f.store.columns.logicals p.a p.b l) ≤ length f.answers
+    iter-fits =
+        rw (sym (walk_is p f iter-low v iter-sparse y l ey el))
+        (ltb-false (length f.answers) (length (answer (Iter p) (table_of f.store))) (quiet-first (ltb (length f.answers) (length (answer (Iter p) (table_of f.store)))) true passed.1))
+
+    pub iter-walks : CanWalk l f.store.columns.logicals p.a p.b f.answers
+    iter-walks = can-walk p f iter-low v iter-sparse y l ey el _ refl iter-fits
+
+    pub iter-few : (n : ℕ) → n ≡ length (walked f.store.columns.logicals p.a p.b l) → n ≤ 65535
+    iter-few n e = walk-low f.store v p.r y iter-low ey l p.a p.b n el e
+
+    pub iter-told : (n : ℕ) (m : List ℕ)
+        → (n ≡ length (walked f.store.columns.logicals p.a p.b l)) × (m ≡ over (walked f.store.columns.logicals p.a p.b l) f.answers)
+        → record { reply = ok (stretch m 0 n); after = full_of f.store m } ≡ result_of f (inner (Iter p) f)
+    iter-told = iter-is p f iter-low v iter-sparse y l ey el _ refl iter-fits
 
 -- ---- TAILONES
 
@@ -156,8 +168,7 @@ module _ (p : RowTail) (f : Full) where
             )
 
         module _ (h : k ≤ length f.answers) where
-          -- whatever number the first tail column is given
-          pub can-list : (base : ℕ) → base ≤ f.store.head.w → CanList f.store.words f.store.head.n i base f.answers
+          can-list : (base : ℕ) → base ≤ f.store.head.w → CanList f.store.words f.store.head.n i base f.answers
           can-list base low =
               let t = tail-in f.store v p.r y hr ey i ei in
               record {
@@ -200,10 +211,20 @@ module _ (p : RowTail) (f : Full) (v : WellFormed f.store) (free : 0 ≡ refusal
   pub tail-first : p.a ≡ edge f.store
   tail-first = eqb-true p.a (edge f.store) (not-false (eqb p.a (edge f.store)) (or-first (not (eqb p.a (edge f.store))) (eqb f.store.head.n 0) apart))
 
-  pub tail-some : f.store.head.n ≡ 0 → ⊥
+  tail-some : f.store.head.n ≡ 0 → ⊥
   tail-some = eqb-false f.store.head.n 0 (or-second (not (eqb p.a (edge f.store))) (eqb f.store.head.n 0) apart)
 
-  pub tail-fits : (y i : ℕ) → y ≡ home_row f.store p.r → i ≡ y → length (tail_ones f.store.words f.store.head.n i 0) ≤ length f.answers
-  tail-fits y i ey ei =
-      rw (base-free f.store.words f.store.head.n i (edge f.store), sym (ones-are p f tail-low v tail-first tail-some y i ey ei))
-      (ltb-false (length f.answers) (length (answer (TailOnes p) (table_of f.store))) (quiet-first (ltb (length f.answers) (length (answer (TailOnes p) (table_of f.store)))) true let_through.1))
+  module _ (y i : ℕ) (ey : y ≡ home_row f.store p.r) (ei : i ≡ y) where
+    tail-fits : length (tail_ones f.store.words f.store.head.n i 0) ≤ length f.answers
+    tail-fits =
+        rw (base-free f.store.words f.store.head.n i (edge f.store), sym (ones-are p f tail-low v tail-first tail-some y i ey ei))
+        (ltb-false (length f.answers) (length (answer (TailOnes p) (table_of f.store))) (quiet-first (ltb (length f.answers) (length (answer (TailOnes p) (table_of f.store)))) true let_through.1))
+
+    -- whatever number the first tail column is given
+    pub tail-lists : (base : ℕ) → base ≤ f.store.head.w → CanList f.store.words f.store.head.n i base f.answers
+    tail-lists = can-list p f tail-low v tail-first tail-some y i ey ei _ refl tail-fits
+
+    pub tail-told : (n : ℕ) (m : List ℕ)
+        → (n ≡ length (tail_ones f.store.words f.store.head.n i (edge f.store))) × (m ≡ over (tail_ones f.store.words f.store.head.n i (edge f.store)) f.answers)
+        → record { reply = ok (stretch m 0 n); after = full_of f.store m } ≡ result_of f (inner (TailOnes p) f)
+    tail-told = tail-is p f tail-low v tail-first tail-some y i ey ei _ refl tail-fits

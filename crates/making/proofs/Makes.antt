@@ -17,13 +17,18 @@ use Rattle.table.specs.Step.{height_limit, width_limit, checks}
 use Rattle.table.specs.Room.{short, room_checks, passes}
 use Rattle.model.specs.Store.{Store, table_of, lent_of, held_of}
 use Rattle.model.specs.Check.{well_formed}
-use Rattle.model.specs.Step.{inner, step, result_of}
+use Rattle.model.specs.Step.{Result, inner, step, result_of}
 use Rattle.model.proofs.Make.{CanMake}
 use Rattle.model.proofs.Passed.{can-make}
 use Rattle.store_head.specs.Lent.{full_of}
+use Rattle.std.specs.Prelude as err
+use Rattle.std.specs.Prelude.{IsErrAnd}
+use Rattle.store_head.specs.declared.refusal.Refusal as code
+use Rattle.store_head.specs.Told.{change_told}
 use Rattle.store_head.specs.Refused.{refusal_of}
+use Rattle.store_head.specs.Refused as by
 use Rattle.store_head.proofs.Ends.{Refuses, Leaves}
-use Rattle.store_head.proofs.Refuses.{past, refuses, number_of, none_of}
+use Rattle.store_head.proofs.Refuses.{past, handed-on, number_of, none_of}
 use Rattle.store_head.proofs.Calls.{make-any}
 use Rattle.making.specs.Making.{outside}
 
@@ -56,14 +61,14 @@ module _ (p : Sizes) (s : Store) where
 
   pub make-done : (a b : Bool) → a ≡ outside p → a ≡ false → b ≡ short (lent_of (full_of s [])) p → b ≡ false
       → (slots counts words marks starts entries row_homes row_logicals column_homes column_logicals : List ℕ)
-      → (slots ≡ zeros (length s.slots.entries)) × ((counts ≡ zeros (length s.slots.counts)) × (words ≡ zeros (length s.words)))
-      → (marks ≡ zeros (length s.index.marks)) × ((starts ≡ zeros (length s.index.starts)) × (entries ≡ zeros (length s.index.entries)))
+      → slots ≡ zeros (length s.slots.entries) → counts ≡ zeros (length s.slots.counts) → words ≡ zeros (length s.words)
+      → marks ≡ zeros (length s.index.marks) → starts ≡ zeros (length s.index.starts) → entries ≡ zeros (length s.index.entries)
       → row_homes ≡ identity (length s.rows.homes) p.h → row_logicals ≡ identity (length s.rows.logicals) p.h
       → column_homes ≡ identity (length s.columns.homes) p.w → column_logicals ≡ identity (length s.columns.logicals) p.w
       → Leaves step (Make p) s (record { head = record { h = p.h; w = p.w; n = p.n; slots = p.slots; made = p.w; on = false }; slots = record { entries = slots; counts = counts }; rows = record { homes = row_homes; logicals = row_logicals }; columns = record { homes = column_homes; logicals = column_logicals }; index = record { starts = starts; entries = entries; marks = marks }; words = words })
   unfolding step
-  make-done a b x a-no y b-no slots counts words marks starts entries row_homes row_logicals column_homes column_logicals u v i j k l =
-      rw (u.0, u.1.0, u.1.1, v.0, v.1.0, v.1.1, i, j, k, l, and-false (not (well_formed s)), sym x ∙ a-no, sym y ∙ b-no)
+  make-done a b x a-no y b-no slots counts words marks starts entries row_homes row_logicals column_homes column_logicals c d e f g h i j k l =
+      rw (c, d, e, f, g, h, i, j, k, l, and-false (not (well_formed s)), sym x ∙ a-no, sym y ∙ b-no)
 
   -- ---- the number of the refusal
   as-inner : result_of (full_of s []) (step (Make p) (full_of s [])) ≡ result_of (full_of s []) (inner (Make p) (full_of s []))
@@ -75,8 +80,10 @@ module _ (p : Sizes) (s : Store) where
   pub make-none : (u : Store) → Leaves step (Make p) s u → 0 ≡ refusal_of (inner (Make p) (full_of s []))
   make-none u e = none_of (Make p) s u (e ∙ as-inner)
 
-  pub make-refused : (k : ℕ) → k ≡ refusal_of (inner (Make p) (full_of s [])) → (k ≡ 0 → ⊥) → Refuses step (Make p) s k
-  make-refused k e n = refuses (Make p) (full_of s []) k e n ∙ sym as-inner
+  -- `?`: a refusal is handed on as it is, and nothing is changed
+  pub make-refused : (r : err.Result (Unit {0}) code.Refusal) (k : code.Refusal) → IsErrAnd r (λ e. e ≡ k) → by.number_of k ≡ refusal_of (inner (Make p) (full_of s []))
+      → ◌≡◌ {A = Result} (change_told r s) (result_of (full_of s []) (step (Make p) (full_of s [])))
+  make-refused r k h e = handed-on (Make p) s r k h e ∙ sym as-inner
 
   -- ---- nothing refuses
   module _ (free : 0 ≡ refusal_of (inner (Make p) (full_of s []))) where

@@ -2,7 +2,8 @@
 use mathlib.Core.Path.{◌≡◌, refl, sym, ap, ◌∙◌}
 use mathlib.Core.Bool.{true, false, true≢false}
 use mathlib.Core.List.{List, [], ◌∷◌}
-use Prim.Native.Nat.{ℕ}
+use Prim.Native.Nat.{ℕ, ◌<◌}
+use native.Mathlib.Omega.{arith}
 use Rattle.table.specs.declared.Op.{Op}
 use Rattle.table.specs.declared.Op.TheVariants.{Make, Set, SwapR, SwapC, Add, On, Off, Freeze, Resize, Get, Count, Words, TailOnes, Iter, ColOnes, Size}
 use Rattle.table.specs.Refusals.{Check, ◌when◌, done, outcome}
@@ -14,17 +15,23 @@ use Rattle.table.specs.Run.{Reply, reply_of, kept}
 use Rattle.model.specs.Store.{Store, Full, table_of, held_of}
 use Rattle.model.specs.Step as model
 use Rattle.model.specs.Step.{Result, inner, step, result_of}
-use Rattle.store_head.specs.declared.Number.{Number}
-use Rattle.store_head.specs.declared.Number.TheVariants as numbered
-use Rattle.store_head.specs.declared.Listed.{Listed}
-use Rattle.store_head.specs.declared.Listed.TheVariants as listed
-use Rattle.store_head.specs.declared.Sized.{Sized}
-use Rattle.store_head.specs.declared.Sized.TheVariants as sized
+use Rattle.std.specs.Prelude as std
+use Rattle.std.specs.Prelude.{IsErrAnd}
+use lib.ListN.{length}
+use Rattle.laws.specs.Parts.{stretch}
+use Rattle.laws.specs.Words.{words_for}
+use Rattle.model.specs.WellFormed.{WellFormed}
+use Rattle.laws.proofs.Parts.{stretch-length}
+use Rattle.table.specs.Run.{ok, nay}
+use Rattle.store_head.specs.declared.refusal.Refusal.{Refusal}
+use Rattle.store_head.specs.declared.Size.{Size as Three}
 use Rattle.store_head.specs.Lent.{full_of}
+use Rattle.store_head.specs.Refused.{number_of}
+use Rattle.store_head.specs.Told.{list_told, change_told, sizes as three}
 use Rattle.store_head.proofs.Calls.{make-any}
-use Rattle.store_head.specs.Told.{number_says, size_says, list_told, words_says}
 use Rattle.operations.specs.declared.Told.{Told}
-use Rattle.operations.specs.Applied.{of_number, of_words, of_sized, of_listed, part_at, Form, number, sizes, list, words, form, asked_told}
+use Rattle.operations.specs.declared.Told.TheVariants as told
+use Rattle.operations.specs.Applied.{part_at, Form, number, sizes, list, words, form, op_told}
 
 -- an operation is MAKE, or the store is well-formed
 pub not-make : (o p : Op) → o ≡ p → is_make (kind p) ≡ false → is_make (kind o) ≡ false
@@ -65,6 +72,10 @@ aside Size n s a = by-checks (all_checks true Size (held_of (full_of s a))) s s 
 pub as-done : (o p : Op) → o ≡ p → (f : Full) (r : Result) → r ≡ result_of f (inner p f) → r ≡ result_of f (inner o f)
 as-done o p e f r q = q ∙ ap (λ (k : Op). result_of f (inner k f)) (sym e)
 
+-- .. and left the store u, which is v
+pub as-left : (o p : Op) → o ≡ p → (f : Full) (r : std.Result (Unit {0}) Refusal) (u v : Store) → u ≡ v → change_told r u ≡ result_of f (inner p f) → change_told r v ≡ result_of f (inner o f)
+as-left o p e f r u v h q = ap (change_told r) (sym h) ∙ as-done o p e f (change_told r u) q
+
 -- ---- a question that answers no list leaves the store
 quiet : (cs : List Check) (s : Store) (l : List ℕ) → (kept (outcome cs (done (full_of s []) l)) (full_of s [])).store ≡ s
 quiet [] s l = refl
@@ -81,28 +92,45 @@ module _ (o p : Op) (e : o ≡ p) (n : room.listed (kind p) ≡ false) (s : Stor
       both : ◌≡◌ {A = Result} (record { reply = r; after = full_of s a }) (beside p s a)
       both i = record { reply = q i; after = full_of (back i) a }
 
-  -- p answers in the form g, so o does
-  module _ (t : Told) (g : Form) (in-form : form p ≡ g) where
-    formed : form o ≡ g
-    formed = ap form e ∙ in-form
+  -- p answers in its form, so o does
+  module _ (at : ℕ) where
+    pub numbers : form p ≡ number → (z : ℕ) → ok (z ∷ []) ≡ reply_of (inner p (full_of s [])) → op_told (form o) at s (std.Ok (told.Number z)) a ≡ result_of (full_of s a) (inner o (full_of s a))
+    numbers i z q = rw (ap form e ∙ i) (asked (ok (z ∷ [])) q)
 
-    pub numbers : g ≡ number → (at : ℕ) (x : Number) → t ≡ of_number x → number_says x ≡ reply_of (inner p (full_of s [])) → asked_told (form o) at s t a ≡ result_of (full_of s a) (inner o (full_of s a))
-    numbers i at (numbered.Is z) k q = rw (k, formed ∙ i) (asked (number_says (numbered.Is z)) q)
-    numbers i at (numbered.No j) k q = rw k (asked (number_says (numbered.No j)) q)
+    pub size : form p ≡ sizes → (z : Three) → ok (three z) ≡ reply_of (inner p (full_of s [])) → op_told (form o) at s (std.Ok (told.Sizes z)) a ≡ result_of (full_of s a) (inner o (full_of s a))
+    size i z q = rw (ap form e ∙ i) (asked (ok (three z)) q)
 
-    pub size : g ≡ sizes → (at : ℕ) (x : Sized) → t ≡ of_sized x → size_says x ≡ reply_of (inner p (full_of s [])) → asked_told (form o) at s t a ≡ result_of (full_of s a) (inner o (full_of s a))
-    size i at (sized.Is z) k q = rw (k, formed ∙ i) (asked (size_says (sized.Is z)) q)
-    size i at (sized.No j) k q = rw k (asked (size_says (sized.No j)) q)
+  -- the words that are handed back stand where the operation says
+  pub row_words : form p ≡ words → (l : List ℕ) (size : ℕ) → l ≡ stretch s.words (part_at p s) size → ok l ≡ reply_of (inner p (full_of s []))
+      → op_told (form o) (part_at o s) s (std.Ok (told.Words (length l))) a ≡ result_of (full_of s a) (inner o (full_of s a))
+  row_words i l size el q =
+      rw (ap form e ∙ i, ap (λ (h : Op). part_at h s) e) (ap (λ r. record { reply = ok r; after = full_of s a }) same ∙ asked (ok l) q)
+    where
+      long : length l ≡ size
+      long = ap length el ∙ stretch-length s.words (part_at p s) size
 
-    pub row_words : g ≡ words → (x : Number) → t ≡ of_words x → words_says s.words (part_at p s) x ≡ reply_of (inner p (full_of s [])) → asked_told (form o) (part_at o s) s t a ≡ result_of (full_of s a) (inner o (full_of s a))
-    row_words i (numbered.Is z) k q = rw (k, formed ∙ i, ap (λ (h : Op). part_at h s) e) (asked (words_says s.words (part_at p s) (numbered.Is z)) q)
-    row_words i (numbered.No j) k q = rw k (asked (words_says s.words (part_at p s) (numbered.No j)) q)
+      same : stretch s.words (part_at p s) (length l) ≡ l
+      same = ap (stretch s.words (part_at p s)) long ∙ sym el
+
+  -- refused, and the refusal handed on
+  pub refuses : (f : Form) (at : ℕ) (t : std.Result Told Refusal) (k : Refusal) → IsErrAnd t (λ j. j ≡ k) → nay (number_of k) ≡ reply_of (inner p (full_of s []))
+      → op_told f at s t a ≡ result_of (full_of s a) (inner o (full_of s a))
+  refuses f at (std.Ok x) k h q = absurd h
+  refuses f at (std.Err j) k h q = ap (λ r. op_told f at s (std.Err r) a) h ∙ asked (nay (number_of k)) q
+
+-- they are few
+pub words-few : (s : Store) → WellFormed s → (at : ℕ) (l : List ℕ) → l ≡ stretch s.words at (words_for s.head.n) → length l < 4294967296
+words-few s v at l e = omega (arith, ap length e, stretch-length s.words at (words_for s.head.n), v.limits.tail, v.maps.wide, v.limits.width)
 
 -- ---- a list
-pub lists : (o p : Op) → o ≡ p → form p ≡ list → (at : ℕ) (t : Told) (x : Listed) → t ≡ of_listed x → (s : Store) (a b : List ℕ)
-    → list_told s x b ≡ result_of (full_of s a) (inner p (full_of s a)) → asked_told (form o) at s t b ≡ result_of (full_of s a) (inner o (full_of s a))
-lists o p e g at t (listed.Count c) k s a b q = rw (k, ap form e ∙ g) (as-done o p e (full_of s a) (list_told s (listed.Count c) b) q)
-lists o p e g at t (listed.No j) k s a b q = rw k (as-done o p e (full_of s a) (list_told s (listed.No j) b) q)
+module _ (o p : Op) (e : o ≡ p) (at : ℕ) (s : Store) (a b : List ℕ) where
+  pub lists : form p ≡ list → (c : ℕ) → list_told s (std.Ok c) b ≡ result_of (full_of s a) (inner p (full_of s a)) → op_told (form o) at s (std.Ok (told.List c)) b ≡ result_of (full_of s a) (inner o (full_of s a))
+  lists g c q = rw (ap form e ∙ g) (as-done o p e (full_of s a) (list_told s (std.Ok c) b) q)
+
+  pub refuses-list : (f : Form) (t : std.Result Told Refusal) (k : Refusal) → IsErrAnd t (λ j. j ≡ k) → list_told s (std.Err k) b ≡ result_of (full_of s a) (inner p (full_of s a))
+      → op_told f at s t b ≡ result_of (full_of s a) (inner o (full_of s a))
+  refuses-list f (std.Ok x) k h q = absurd h
+  refuses-list f (std.Err j) k h q = ap (λ r. op_told f at s (std.Err r) b) h ∙ as-done o p e (full_of s a) (list_told s (std.Err k) b) q
 
 -- ---- which questions leave the store
 pub get-still : (p : _) (s : Store) → (kept (inner (Get p) (full_of s [])) (full_of s [])).store ≡ s

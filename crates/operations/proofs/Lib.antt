@@ -1,4 +1,5 @@
 pub mod Arms
+pub mod Left
 pub mod Others
 pub mod Checks
 pub mod Numbers

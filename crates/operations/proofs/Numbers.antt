@@ -1,24 +1,24 @@
 -- The number of a refusal, whichever function decides it: told for an operation by its kind, beside the answer buffer. Assumes nothing.
-use mathlib.Core.Path.{◌≡◌, refl, sym, ap, ◌∙◌}
+use mathlib.Core.Path.{◌≡◌, refl, sym, ap, subst, ◌∙◌}
 use mathlib.Core.Bool.{true, false, true≢false}
 use mathlib.Core.List.{List, []}
+use mathlib.Core.Logic.{⊎_elim, ◌⊎◌}
 use Prim.Native.Nat.{ℕ}
 use Rattle.table.specs.declared.Op.{Op}
 use Rattle.table.specs.declared.Op.TheVariants.{Make, Set, SwapR, SwapC, Add, On, Off, Freeze, Resize, Get, Count, Words, TailOnes, Iter, ColOnes, Size}
 use Rattle.table.specs.Refusals.{Verdict, refused, done}
 use Rattle.table.specs.Step.{answer}
 use Rattle.table.specs.Room.{kind, listed, all_checks}
-use Rattle.table.specs.Run.{nay, reply_of}
+use Rattle.table.specs.Run.{ok, nay, reply_of}
 use Rattle.model.specs.Store.{Store, Full, table_of, held_of}
 use Rattle.model.specs.Step.{full_after, inner}
-use Rattle.store_head.specs.declared.Number.{Number}
-use Rattle.store_head.specs.declared.Number.TheVariants as numbered
+use Rattle.std.specs.Prelude as std
+use Rattle.std.specs.Prelude.{IsErrAnd}
+use Rattle.store_head.specs.declared.refusal.Refusal.{Refusal}
 use Rattle.store_head.specs.Lent.{full_of}
-use Rattle.store_head.specs.Refused.{refusal_of}
-use Rattle.store_head.specs.Told.{number_says, words_says}
+use Rattle.store_head.specs.Refused.{refusal_of, refused_by, number_of}
 use Rattle.store_head.proofs.Refuses.{same_number}
 use Rattle.store_head.proofs.Replies.{number_in, never}
-use Rattle.operations.specs.Applied.{refused_in}
 
 -- ---- the answer buffer decides nothing where no list is answered
 aside : (o : Op) → listed (kind o) ≡ false → (s : Store) (a : List ℕ) → refusal_of (inner o (full_of s [])) ≡ refusal_of (inner o (full_of s a))
@@ -53,21 +53,19 @@ unfolding number_in
 is_number (refused j) k e = ap number_in e
 is_number (done f a) k e = never a k (sym e)
 
-pub number-refused : (o : Op) (f : Full) (x : Number) → number_says x ≡ reply_of (inner o f) → refused_in x ≡ refusal_of (inner o f)
-number-refused o f (numbered.No k) q = is_number (inner o f) k q
-number-refused o f (numbered.Is z) q = none (inner o f) q
-  where
-    none : (v : Verdict Full) → number_says (numbered.Is z) ≡ reply_of v → 0 ≡ refusal_of v
-    none (refused j) e = never _ j e
-    none (done g a) e = refl
+is_none : (v : Verdict Full) (l : List ℕ) → ok l ≡ reply_of v → 0 ≡ refusal_of v
+is_none (refused j) l e = never l j e
+is_none (done g a) l e = refl
 
-pub words-refused : (o : Op) (f : Full) (ws : List ℕ) (at : ℕ) (x : Number) → words_says ws at x ≡ reply_of (inner o f) → refused_in x ≡ refusal_of (inner o f)
-words-refused o f ws at (numbered.No k) q = is_number (inner o f) k q
-words-refused o f ws at (numbered.Is z) q = none (inner o f) q
-  where
-    none : (v : Verdict Full) → words_says ws at (numbered.Is z) ≡ reply_of v → 0 ≡ refusal_of v
-    none (refused j) e = never _ j e
-    none (done g a) e = refl
+-- of the store s, seen as v
+module _ (o p : Op) (e : o ≡ p) (n : listed (kind p) ≡ false) (v s : Store) (same : v ≡ s) (a : List ℕ) where
+  pub asked-free : (l : List ℕ) → ok l ≡ reply_of (inner p (full_of v [])) → 0 ≡ refusal_of (inner o (full_of s a))
+  asked-free l q = beside-refused o p e n s a 0 (subst (λ (u : Store). 0 ≡ refusal_of (inner p (full_of u []))) same (is_none (inner p (full_of v [])) l q))
+
+  pub asked-refused : (t : std.Result (Unit {0}) Refusal) (k : Refusal) → IsErrAnd t (λ j. j ≡ k) → nay (number_of k) ≡ reply_of (inner p (full_of v [])) → refused_by t ≡ refusal_of (inner o (full_of s a))
+  asked-refused (std.Ok x) k h q = absurd h
+  asked-refused (std.Err j) k h q =
+      ap number_of h ∙ beside-refused o p e n s a (number_of k) (subst (λ (u : Store). number_of k ≡ refusal_of (inner p (full_of u []))) same (is_number (inner p (full_of v [])) (number_of k) q))
 
 -- ---- nothing refuses OFF or SIZE
 pub off-free : (s : Store) → 0 ≡ refusal_of (inner Off (full_of s []))
@@ -77,3 +75,6 @@ off-free s = refl
 pub size-free : (s : Store) → 0 ≡ refusal_of (inner Size (full_of s []))
 unfolding inner
 size-free s = refl
+
+pub free-of-two : (o : Op) → (o ≡ Off) ⊎ (o ≡ Size) → (s : Store) (a : List ℕ) → 0 ≡ refusal_of (inner o (full_of s a))
+free-of-two o h s a = ⊎_elim (λ e. beside-refused o Off e refl s a 0 (off-free s)) (λ e. beside-refused o Size e refl s a 0 (size-free s)) h

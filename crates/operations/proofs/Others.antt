@@ -14,7 +14,7 @@ use Rattle.table.specs.declared.RowTail.{RowTail}
 use Rattle.table.specs.declared.ColumnRange.{ColumnRange}
 use Rattle.table.specs.declared.Op.TheVariants.{Make, Set, SwapR, SwapC, Add, On, Off, Freeze, Resize, Get, Count, Words, TailOnes, Iter, ColOnes, Size}
 use Rattle.table.specs.Room.{kind, is_make, listed}
-use Rattle.operations.specs.Applied.{asks, in_place, done, form}
+use Rattle.operations.specs.Applied.{asks, done, form}
 
 -- one that asks is one of the seven that ask
 pub asks-one : (o : Op) → asks o ≡ true → ((x : Cell) → o ≡ Get x → ⊥) → ((x : RowRange) → o ≡ Count x → ⊥) → ((x : RowTail) → o ≡ Words x → ⊥) → ((x : RowTail) → o ≡ TailOnes x → ⊥) → ((x : RowRange) → o ≡ Iter x → ⊥) → ((x : ColumnRange) → o ≡ ColOnes x → ⊥) → (o ≡ Size → ⊥) → ⊥
@@ -34,6 +34,25 @@ asks-one (TailOnes p) t h0 h1 h2 h3 h4 h5 h6 = h3 p refl
 asks-one (Iter p) t h0 h1 h2 h3 h4 h5 h6 = h4 p refl
 asks-one (ColOnes p) t h0 h1 h2 h3 h4 h5 h6 = h5 p refl
 asks-one Size t h0 h1 h2 h3 h4 h5 h6 = h6 refl
+
+-- one that does not ask is one of the nine that change the store
+pub changes-one : (o : Op) → asks o ≡ false → ((x : Sizes) → o ≡ Make x → ⊥) → ((x : SetCell) → o ≡ Set x → ⊥) → ((x : Two) → o ≡ SwapR x → ⊥) → ((x : Two) → o ≡ SwapC x → ⊥) → ((x : Addition) → o ≡ Add x → ⊥) → (o ≡ On → ⊥) → (o ≡ Off → ⊥) → ((x : Column) → o ≡ Freeze x → ⊥) → ((x : Shape) → o ≡ Resize x → ⊥) → ⊥
+changes-one (Make p) t h0 h1 h2 h3 h4 h5 h6 h7 h8 = h0 p refl
+changes-one (Set p) t h0 h1 h2 h3 h4 h5 h6 h7 h8 = h1 p refl
+changes-one (SwapR p) t h0 h1 h2 h3 h4 h5 h6 h7 h8 = h2 p refl
+changes-one (SwapC p) t h0 h1 h2 h3 h4 h5 h6 h7 h8 = h3 p refl
+changes-one (Add p) t h0 h1 h2 h3 h4 h5 h6 h7 h8 = h4 p refl
+changes-one On t h0 h1 h2 h3 h4 h5 h6 h7 h8 = h5 refl
+changes-one Off t h0 h1 h2 h3 h4 h5 h6 h7 h8 = h6 refl
+changes-one (Freeze p) t h0 h1 h2 h3 h4 h5 h6 h7 h8 = h7 p refl
+changes-one (Resize p) t h0 h1 h2 h3 h4 h5 h6 h7 h8 = h8 p refl
+changes-one (Get p) t h0 h1 h2 h3 h4 h5 h6 h7 h8 = true≢false t
+changes-one (Count p) t h0 h1 h2 h3 h4 h5 h6 h7 h8 = true≢false t
+changes-one (Words p) t h0 h1 h2 h3 h4 h5 h6 h7 h8 = true≢false t
+changes-one (TailOnes p) t h0 h1 h2 h3 h4 h5 h6 h7 h8 = true≢false t
+changes-one (Iter p) t h0 h1 h2 h3 h4 h5 h6 h7 h8 = true≢false t
+changes-one (ColOnes p) t h0 h1 h2 h3 h4 h5 h6 h7 h8 = true≢false t
+changes-one Size t h0 h1 h2 h3 h4 h5 h6 h7 h8 = true≢false t
 
 -- ---- the same of the tests
 pub other-than-make : (o : Op) → ((x : Sizes) → o ≡ Make x → ⊥) → false ≡ is_make (kind o)
@@ -128,58 +147,3 @@ change-form (TailOnes p) t = absurd (true≢false t)
 change-form (Iter p) t = absurd (true≢false t)
 change-form (ColOnes p) t = absurd (true≢false t)
 change-form Size t = absurd (true≢false t)
-
--- ---- the five that leave the index's lists
-pub in-place-one : (o : Op) → in_place o ≡ true → ((x : SetCell) → o ≡ Set x → ⊥) → ((x : Two) → o ≡ SwapR x → ⊥) → ((x : Two) → o ≡ SwapC x → ⊥) → ((x : Addition) → o ≡ Add x → ⊥) → ((x : Column) → o ≡ Freeze x → ⊥) → ⊥
-in-place-one (Make p) t h0 h1 h2 h3 h4 = false≢true t
-in-place-one (Set p) t h0 h1 h2 h3 h4 = h0 p refl
-in-place-one (SwapR p) t h0 h1 h2 h3 h4 = h1 p refl
-in-place-one (SwapC p) t h0 h1 h2 h3 h4 = h2 p refl
-in-place-one (Add p) t h0 h1 h2 h3 h4 = h3 p refl
-in-place-one On t h0 h1 h2 h3 h4 = false≢true t
-in-place-one Off t h0 h1 h2 h3 h4 = false≢true t
-in-place-one (Freeze p) t h0 h1 h2 h3 h4 = h4 p refl
-in-place-one (Resize p) t h0 h1 h2 h3 h4 = false≢true t
-in-place-one (Get p) t h0 h1 h2 h3 h4 = false≢true t
-in-place-one (Count p) t h0 h1 h2 h3 h4 = false≢true t
-in-place-one (Words p) t h0 h1 h2 h3 h4 = false≢true t
-in-place-one (TailOnes p) t h0 h1 h2 h3 h4 = false≢true t
-in-place-one (Iter p) t h0 h1 h2 h3 h4 = false≢true t
-in-place-one (ColOnes p) t h0 h1 h2 h3 h4 = false≢true t
-in-place-one Size t h0 h1 h2 h3 h4 = false≢true t
-
-pub stays : (o : Op) → asks o ≡ false → ((x : Sizes) → o ≡ Make x → ⊥) → (o ≡ On → ⊥) → (o ≡ Off → ⊥) → ((x : Shape) → o ≡ Resize x → ⊥) → in_place o ≡ true
-stays (Make p) t h0 h1 h2 h3 = absurd (h0 p refl)
-stays (Set p) t h0 h1 h2 h3 = refl
-stays (SwapR p) t h0 h1 h2 h3 = refl
-stays (SwapC p) t h0 h1 h2 h3 = refl
-stays (Add p) t h0 h1 h2 h3 = refl
-stays On t h0 h1 h2 h3 = absurd (h1 refl)
-stays Off t h0 h1 h2 h3 = absurd (h2 refl)
-stays (Freeze p) t h0 h1 h2 h3 = refl
-stays (Resize p) t h0 h1 h2 h3 = absurd (h3 p refl)
-stays (Get p) t h0 h1 h2 h3 = absurd (true≢false t)
-stays (Count p) t h0 h1 h2 h3 = absurd (true≢false t)
-stays (Words p) t h0 h1 h2 h3 = absurd (true≢false t)
-stays (TailOnes p) t h0 h1 h2 h3 = absurd (true≢false t)
-stays (Iter p) t h0 h1 h2 h3 = absurd (true≢false t)
-stays (ColOnes p) t h0 h1 h2 h3 = absurd (true≢false t)
-stays Size t h0 h1 h2 h3 = absurd (true≢false t)
-
-pub in-place-not-make : (o : Op) → in_place o ≡ true → is_make (kind o) ≡ false
-in-place-not-make (Make p) t = absurd (false≢true t)
-in-place-not-make (Set p) t = refl
-in-place-not-make (SwapR p) t = refl
-in-place-not-make (SwapC p) t = refl
-in-place-not-make (Add p) t = refl
-in-place-not-make On t = refl
-in-place-not-make Off t = refl
-in-place-not-make (Freeze p) t = refl
-in-place-not-make (Resize p) t = refl
-in-place-not-make (Get p) t = refl
-in-place-not-make (Count p) t = refl
-in-place-not-make (Words p) t = refl
-in-place-not-make (TailOnes p) t = refl
-in-place-not-make (Iter p) t = refl
-in-place-not-make (ColOnes p) t = refl
-in-place-not-make Size t = refl

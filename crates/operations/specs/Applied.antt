@@ -1,52 +1,20 @@
 -- What one call for any operation tells and leaves, in 01's words. Assumes nothing.
-use Rattle.std.specs.Prelude.{Bool, true, false, List, [], ◌∷◌, ℕ, ◌*◌}
+use Rattle.std.specs.Prelude.{◌≡◌, Bool, true, false, List, [], ◌∷◌, ℕ, ◌*◌, Result, Ok, Err}
 use Rattle.laws.specs.Parts.{stretch}
 use Rattle.laws.specs.Words.{words_for}
 use Rattle.table.specs.declared.Op.{Op}
 use Rattle.table.specs.declared.Op.TheVariants as op
+use Rattle.table.specs.Room.{kind, is_make}
 use Rattle.table.specs.Run.{Reply, ok, nay}
 use Rattle.model.specs.Store as model
-use Rattle.model.specs.Step.{Result}
-use Rattle.store_head.specs.declared.Numbers.{Numbers}
-use Rattle.store_head.specs.declared.Changed.{Changed}
-use Rattle.store_head.specs.declared.Changed.TheVariants as changed
-use Rattle.store_head.specs.declared.Number.{Number}
-use Rattle.store_head.specs.declared.Number.TheVariants as numbered
-use Rattle.store_head.specs.declared.Listed.{Listed}
-use Rattle.store_head.specs.declared.Listed.TheVariants as listed
-use Rattle.store_head.specs.declared.Sized.{Sized}
-use Rattle.store_head.specs.declared.Sized.TheVariants as sized
+use Rattle.model.specs.Check.{well_formed}
+use Rattle.model.specs.Step as step
+use Rattle.store_head.specs.declared.refusal.Refusal.{Refusal}
+use Rattle.store_head.specs.declared.refusal.Refusal.TheVariants as refusal
 use Rattle.store_head.specs.Lent.{full_of}
+use Rattle.store_head.specs.Refused.{number_of}
 use Rattle.operations.specs.declared.Told.{Told}
 use Rattle.operations.specs.declared.Told.TheVariants as told
-use Rattle.operations.specs.declared.Applied.{Applied}
-
--- ---- what is told, from what each kind of call answers
-abbrev pub of_number : Number → Told
-of_number (numbered.Is x) = told.Number x
-of_number (numbered.No k) = told.No k
-
-abbrev pub of_words : Number → Told
-of_words (numbered.Is c) = told.Words c
-of_words (numbered.No k) = told.No k
-
-abbrev pub of_sized : Sized → Told
-of_sized (sized.Is p) = told.Sizes p
-of_sized (sized.No k) = told.No k
-
-abbrev pub of_listed : Listed → Told
-of_listed (listed.Count c) = told.List c
-of_listed (listed.No k) = told.No k
-
--- .. and the head afterwards: the new one, or the old one where the change is refused
-abbrev pub of_changed : Numbers → Changed → Applied
-of_changed d (changed.Done e) = record { head = e; told = told.Done }
-of_changed d (changed.No k) = record { head = d; told = told.No k }
-
--- the number of a refusal that an answer holds, and 0 where it is none
-abbrev pub refused_in : Number → ℕ
-refused_in (numbered.Is x) = 0
-refused_in (numbered.No k) = k
 
 -- ---- what it says
 
@@ -68,25 +36,6 @@ asks (op.TailOnes p) = true
 asks (op.Iter p) = true
 asks (op.ColOnes p) = true
 asks op.Size = true
-
--- five of those that change the store leave the index's lists as they stand
-abbrev pub in_place : Op → Bool
-in_place (op.Make p) = false
-in_place (op.Set p) = true
-in_place (op.SwapR p) = true
-in_place (op.SwapC p) = true
-in_place (op.Add p) = true
-in_place op.On = false
-in_place op.Off = false
-in_place (op.Freeze p) = true
-in_place (op.Resize p) = false
-in_place (op.Get p) = false
-in_place (op.Count p) = false
-in_place (op.Words p) = false
-in_place (op.TailOnes p) = false
-in_place (op.Iter p) = false
-in_place (op.ColOnes p) = false
-in_place op.Size = false
 
 -- where in the lent words the part of WORDS begins: "from home row times words per row"
 abbrev pub part_at : Op → model.Store → ℕ
@@ -135,38 +84,44 @@ form op.Size = sizes
 
 -- the reply, with the words and the answer buffer as they are left. What is not in the operation's form says 0, a number that
 -- no refusal has: a contract with this reply then determines what is told
-abbrev pub says : Told → Form → ℕ → List ℕ → List ℕ → Reply
-says (told.No k) f at ws answers = nay k
-says told.Done done at ws answers = ok []
-says told.Done number at ws answers = nay 0
-says told.Done sizes at ws answers = nay 0
-says told.Done list at ws answers = nay 0
-says told.Done words at ws answers = nay 0
-says (told.Number x) done at ws answers = nay 0
-says (told.Number x) number at ws answers = ok (x ∷ [])
-says (told.Number x) sizes at ws answers = nay 0
-says (told.Number x) list at ws answers = nay 0
-says (told.Number x) words at ws answers = nay 0
-says (told.Sizes p) done at ws answers = nay 0
-says (told.Sizes p) number at ws answers = nay 0
-says (told.Sizes p) sizes at ws answers = ok (p.h ∷ p.w ∷ p.n ∷ [])
-says (told.Sizes p) list at ws answers = nay 0
-says (told.Sizes p) words at ws answers = nay 0
-says (told.List c) done at ws answers = nay 0
-says (told.List c) number at ws answers = nay 0
-says (told.List c) sizes at ws answers = nay 0
-says (told.List c) list at ws answers = ok (stretch answers 0 c)
-says (told.List c) words at ws answers = nay 0
-says (told.Words c) done at ws answers = nay 0
-says (told.Words c) number at ws answers = nay 0
-says (told.Words c) sizes at ws answers = nay 0
-says (told.Words c) list at ws answers = nay 0
-says (told.Words c) words at ws answers = ok (stretch ws at c)
+abbrev pub says_told : Told → Form → ℕ → List ℕ → List ℕ → Reply
+says_told told.Done done at ws answers = ok []
+says_told told.Done number at ws answers = nay 0
+says_told told.Done sizes at ws answers = nay 0
+says_told told.Done list at ws answers = nay 0
+says_told told.Done words at ws answers = nay 0
+says_told (told.Number x) done at ws answers = nay 0
+says_told (told.Number x) number at ws answers = ok (x ∷ [])
+says_told (told.Number x) sizes at ws answers = nay 0
+says_told (told.Number x) list at ws answers = nay 0
+says_told (told.Number x) words at ws answers = nay 0
+says_told (told.Sizes p) done at ws answers = nay 0
+says_told (told.Sizes p) number at ws answers = nay 0
+says_told (told.Sizes p) sizes at ws answers = ok (p.h ∷ p.w ∷ p.n ∷ [])
+says_told (told.Sizes p) list at ws answers = nay 0
+says_told (told.Sizes p) words at ws answers = nay 0
+says_told (told.List c) done at ws answers = nay 0
+says_told (told.List c) number at ws answers = nay 0
+says_told (told.List c) sizes at ws answers = nay 0
+says_told (told.List c) list at ws answers = ok (stretch answers 0 c)
+says_told (told.List c) words at ws answers = nay 0
+says_told (told.Words c) done at ws answers = nay 0
+says_told (told.Words c) number at ws answers = nay 0
+says_told (told.Words c) sizes at ws answers = nay 0
+says_told (told.Words c) list at ws answers = nay 0
+says_told (told.Words c) words at ws answers = ok (stretch ws at c)
 
--- a question leaves the store s as it is
-abbrev pub asked_told : Form → ℕ → model.Store → Told → List ℕ → Result
-asked_told f at s t answers = record { reply = says t f at s.words answers; after = full_of s answers }
+abbrev pub says : Result Told Refusal → Form → ℕ → List ℕ → List ℕ → Reply
+says (Ok t) f at ws answers = says_told t f at ws answers
+says (Err k) f at ws answers = nay (number_of k)
 
--- any operation: the store over the head that is handed back
-abbrev pub applied_told : Form → ℕ → Applied → (Numbers → model.Store) → List ℕ → Result
-applied_told f at a left answers = asked_told f at (left a.head) a.told answers
+-- any operation: what it tells, and the store u and the answer buffer that it leaves
+abbrev pub op_told : Form → ℕ → model.Store → Result Told Refusal → List ℕ → step.Result
+op_told f at u t answers = record { reply = says t f at u.words answers; after = full_of u answers }
+
+-- ---- the guard
+
+-- it lets MAKE through, and any other on a well-formed store; it refuses with 1 what is not MAKE on a damaged one
+abbrev pub May : Op → model.Store → Result (Unit {0}) Refusal → Type 0
+May o s (Ok x) = is_make (kind o) ≡ false → true ≡ well_formed s
+May o s (Err k) = (is_make (kind o) ≡ false) × ((k ≡ refusal.Damaged) × (false ≡ well_formed s))

@@ -1,6 +1,7 @@
 -- GET, COUNT and SIZE: what each way out says, and that the definition says the same. Assumes nothing.
 use mathlib.Core.Path.{◌≡◌, refl, sym, ap, ◌∙◌}
-use mathlib.Core.Bool.{Bool}
+use mathlib.Core.Bool.{Bool, true, false}
+use mir.Val.{bool_byte}
 use mathlib.Core.List.{List, [], ◌∷◌}
 use Prim.Native.Nat.{ℕ, ◌-◌, ◌≤◌, ◌<◌}
 use lib.ListN.{length}
@@ -17,6 +18,11 @@ use Rattle.model.specs.Store.{Full, edge, row, home_row, home_column, cell}
 use Rattle.model.specs.WellFormed.{WellFormed}
 use Rattle.model.specs.Step.{inner}
 use Rattle.model.proofs.Walk.{count-means}
+
+-- a bit as a number, as the code turns it
+bit-num : (b : Bool) → bool_byte b ≡ num b
+bit-num true = refl
+bit-num false = refl
 
 -- ---- SIZE
 pub size_is : (f : Full) → ok (f.store.head.h ∷ f.store.head.w ∷ f.store.head.n ∷ []) ≡ reply_of (inner Size f)
@@ -41,15 +47,15 @@ module _ (p : Cell) (f : Full) where
           rw (lt-leb f.store.head.h p.r hr, lt-leb f.store.head.w p.c hc, lt-ltb p.r f.store.head.h hr, lt-ltb p.c f.store.head.w hc)
 
       pub get-sparse : (y k z x : ℕ) (l : List ℕ) (b : Bool) → p.c < edge f.store → y ≡ home_row f.store p.r → k ≡ p.c → z ≡ home_column f.store k
-          → l ≡ row f.store y → b ≡ member z l → x ≡ num b → ok (x ∷ []) ≡ reply_of (inner (Get p) f)
-      get-sparse y k z x l b low ey ek ez el eb ex = rw (ex, eb, el, ey, ez, ek) (ap (λ q. ok (num q ∷ [])) (sym cell-is) ∙ get-is)
+          → l ≡ row f.store y → b ≡ member z l → x ≡ bool_byte b → ok (x ∷ []) ≡ reply_of (inner (Get p) f)
+      get-sparse y k z x l b low ey ek ez el eb ex = rw (ex, bit-num b, eb, el, ey, ez, ek) (ap (λ q. ok (num q ∷ [])) (sym cell-is) ∙ get-is)
         where
           cell-is : cell f.store (home_row f.store p.r) p.c ≡ member (home_column f.store p.c) (row f.store (home_row f.store p.r))
           cell-is = rw (lt-ltb p.c (edge f.store) low)
 
       pub get-tail : (y i x : ℕ) (b : Bool) → edge f.store ≤ p.c → y ≡ home_row f.store p.r → i ≡ y
-          → b ≡ tail_bit f.store.words f.store.head.n i (p.c - edge f.store) → x ≡ num b → ok (x ∷ []) ≡ reply_of (inner (Get p) f)
-      get-tail y i x b l ey ei eb ex = rw (ex, eb, ei, ey) (ap (λ q. ok (num q ∷ [])) (sym cell-is) ∙ get-is)
+          → b ≡ tail_bit f.store.words f.store.head.n i (p.c - edge f.store) → x ≡ bool_byte b → ok (x ∷ []) ≡ reply_of (inner (Get p) f)
+      get-tail y i x b l ey ei eb ex = rw (ex, bit-num b, eb, ei, ey) (ap (λ q. ok (num q ∷ [])) (sym cell-is) ∙ get-is)
         where
           cell-is : cell f.store (home_row f.store p.r) p.c
               ≡ tail_bit f.store.words f.store.head.n (home_row f.store p.r) (p.c - edge f.store)

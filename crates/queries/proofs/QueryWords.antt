@@ -1,6 +1,6 @@
 -- WORDS: what each way out says, and that the definition says the same. Assumes nothing.
-use mathlib.Core.Path.{◌≡◌, refl, sym, ap, ◌∙◌}
-use mathlib.Core.List.{List, []}
+use mathlib.Core.Path.{◌≡◌, refl, sym, ap}
+use mathlib.Core.List.{List}
 use Prim.Native.Nat.{ℕ, ◌*◌, ◌^◌, ◌≤◌, ◌<◌}
 use lib.ListN.{get_or}
 use borrow.Author.Tests.{le-leb, lt-leb, eq-eqb, ne_eqb}
@@ -14,7 +14,6 @@ use Rattle.model.specs.Store.{Full, edge, home_row}
 use Rattle.model.specs.WellFormed.{WellFormed}
 use Rattle.model.specs.Step.{inner}
 use Rattle.model.proofs.Tail.{words-mean}
-use Rattle.store_head.specs.Told.{handed}
 use Rattle.store_head.proofs.QueryPlaces.{words-in}
 
 module _ (p : RowTail) (f : Full) where
@@ -27,32 +26,13 @@ module _ (p : RowTail) (f : Full) where
     unfolding inner
     words-side h = rw (lt-leb f.store.head.h p.r hr, ne_eqb p.a (edge f.store) h)
 
-    module _ (ha : p.a ≡ edge f.store) (v : WellFormed f.store) (fit : (i : ℕ) → get_or f.store.words i 0 < 2 ^ 64) where
-      ws : ℕ
-      ws = words_for f.store.head.n
+    -- the row's part, where the code finds it
+    module _ (v : WellFormed f.store) (y k : ℕ) (l : List ℕ) (ey : y ≡ home_row f.store p.r) (ek : k ≡ words_for f.store.head.n) (el : l ≡ part f.store.words (y * k) k) where
+      pub words_are : p.a ≡ edge f.store → ((i : ℕ) → get_or f.store.words i 0 < 2 ^ 64) → ok l ≡ reply_of (inner (Words p) f)
+      unfolding inner
+      words_are ha fit =
+          rw (lt-leb f.store.head.h p.r hr, eq-eqb p.a (edge f.store) ha, el, ey, ek) (ap ok (sym (words-mean f.store v p.r hr fit)))
 
-      at : ℕ
-      at = home_row f.store p.r * ws
-
-      told : stretch f.store.words at ws ≡ part f.store.words at ws
-      unfolding at ws
-      told = stretch-part f.store.words at ws (words-in f.store v p.r (home_row f.store p.r) hr refl (home_row f.store p.r) refl).fits
-
-      pub words_are : (k : ℕ) → k ≡ words_for f.store.head.n
-          → ok (stretch f.store.words (home_row f.store p.r * words_for f.store.head.n) k) ≡ reply_of (inner (Words p) f)
-      unfolding inner at ws
-      words_are k e =
-          rw (lt-leb f.store.head.h p.r hr, eq-eqb p.a (edge f.store) ha, e) (ap ok (told ∙ sym (words-mean f.store v p.r hr fit)))
-
-      -- the part that is handed back
-      pub part-are : (y i k : ℕ) (l : List ℕ) → y ≡ home_row f.store p.r → i ≡ y → k ≡ words_for f.store.head.n → l ≡ part f.store.words (i * k) k
-          → l ≡ handed (reply_of (inner (Words p) f))
-      unfolding at ws
-      part-are y i k l ey ei ek el = rw (el, ei, ey, ek) (sym told ∙ ap handed (words_are ws refl))
-
--- refused: nothing is handed back
-pub none_row : (p : RowTail) (f : Full) → f.store.head.h ≤ p.r → [] ≡ handed (reply_of (inner (Words p) f))
-none_row p f h = ap handed (words_row p f h)
-
-pub none-side : (p : RowTail) (f : Full) → p.r < f.store.head.h → (p.a ≡ edge f.store → ⊥) → [] ≡ handed (reply_of (inner (Words p) f))
-none-side p f hr h = ap handed (words-side p f hr h)
+      pub words-stand : l ≡ stretch f.store.words (home_row f.store p.r * words_for f.store.head.n) (words_for f.store.head.n)
+      words-stand =
+          rw (el, ey, ek) (sym (stretch-part f.store.words (home_row f.store p.r * words_for f.store.head.n) (words_for f.store.head.n) (words-in f.store v p.r (home_row f.store p.r) hr refl (home_row f.store p.r) refl).fits))

@@ -204,7 +204,7 @@ in_take i q l h m = member-place (take i l) q m (λ j hj e. let low : j < i = om
     rw (sym (sym (get_or-take i l j 0 low) ∙ e)) (member-at l j (omega arith)))
 
 -- the store with the words ws
-abbrev over : Store → List ℕ → Store
+abbrev pub over : Store → List ℕ → Store
 over s ws = record { head = s.head; slots = s.slots; rows = s.rows; columns = s.columns; index = s.index; words = ws }
 
 module _ (s : Store) (v : WellFormed s) (p : Column) (free : 0 ≡ refusal_of (inner (Freeze p) (full_of s []))) where

@@ -5,13 +5,14 @@ use mathlib.Core.List.{List, []}
 use Prim.Native.Nat.{ℕ, ◌-◌, ◌*◌, ◌≤◌, ◌<◌}
 use native.Mathlib.Omega.{arith}
 use native.Mathlib.Nat.{mul-le-mul_right}
-use lib.Dec.{ltb, eqb}
+use lib.Dec.{ltb}
 use lib.ListN.{length, get_or, set}
 use borrow.Author.Tests.{le-ltb, lt-ltb, eq-eqb, ne_eqb}
 use Rattle.laws.specs.Plain.{pick}
 use Rattle.laws.specs.Parts.{zeros, part, put_at, row_of}
 use Rattle.laws.specs.Words.{words_for}
-use Rattle.laws.proofs.Parts.{part_length}
+use Rattle.laws.proofs.Parts.{row-end, part_length}
+use Rattle.laws.proofs.Members.{member-at}
 use Rattle.lent.specs.Stretch.{Stretch}
 use Rattle.sparse_vec.specs.Row.{put_row, kept_below}
 use Rattle.sparse_vec.specs.Calls.{CanRetain}
@@ -21,13 +22,15 @@ use Rattle.lent.specs.Stretch.{Apart}
 use Rattle.table.specs.declared.Shape.{Shape}
 use Rattle.table.specs.declared.Op.TheVariants.{Resize}
 use Rattle.table.specs.Refusals.{refused, done}
-use Rattle.model.specs.Store.{Store, Full}
-use Rattle.model.specs.Change.{exchanged, bring_home, drop_rows}
+use Rattle.model.specs.Store.{Store, Full, edge, row, home_row}
+use Rattle.model.specs.WellFormed.{WellFormed}
+use Rattle.model.specs.Change.{with_row, exchanged, bring_home, drop_rows}
 use Rattle.model.specs.Step.{inner}
-use Rattle.store_head.specs.declared.Numbers.{Numbers}
+use Rattle.model.proofs.Rows.{frame-of, rows_apart}
 use Rattle.store_head.specs.Lent.{full_of}
 use Rattle.store_head.specs.Refused.{refusal_of}
-use Rattle.reshape.specs.Resized.{rows_over, RowsOf, CanTrade, CanHome, CanDrop, CanKeep}
+use Rattle.reshape.specs.Resized.{CanTrade}
+use Rattle.reshape.proofs.Freezes.{frame-take}
 
 -- ---- the refusals
 
@@ -84,77 +87,86 @@ pub words-traded : (words W : List ℕ) (n k y x : ℕ) → k ≡ words_for n �
     → W ≡ exchanged words (y * words_for n) (x * words_for n) (words_for n)
 words-traded words W n k y x e w = w ∙ rw e
 
--- ---- row r, kept in home y, is brought to home r
-module _ (d : Numbers) (slots counts homes logicals words : List ℕ) (r : ℕ) (can : CanHome d slots counts homes logicals words r)
-    (home : ℕ) (home-is : home ≡ get_or homes r 0) (y x : ℕ) (y-is : y ≡ home) (x-is : x ≡ r) where
-  at : y ≡ get_or homes r 0
-  at = y-is ∙ home-is
+-- ---- row r of a well-formed store, kept in home y, is brought to home r
+module _ (s : Store) (v : WellFormed s) (r : ℕ) (hr : r < s.head.h) (y : ℕ) (y-is : y ≡ home_row s r) where
+  low-y : y < s.head.h
+  low-y = rw y-is (v.maps.rows.f-below r hr)
 
-  pub at_home : y ≡ x → RowsOf (bring_home (rows_over d slots counts homes logicals words) r) slots counts homes logicals words
-  at_home e =
-      let same : eqb (get_or homes r 0) r ≡ true = eq-eqb (get_or homes r 0) r (sym at ∙ e ∙ x-is) in
-      rw same (record { lists = record { slots-are = refl; counts-are = refl }; homes-are = refl; logicals-are = refl; words_are = refl })
+  pub row-in : r < length s.rows.homes
+  row-in = omega (arith, v.maps.rows.f-long)
 
-  module _ (ne : y ≡ x → ⊥) where
-    away : get_or homes r 0 ≡ r → ⊥
-    away e = ne (at ∙ e ∙ sym x-is)
+  pub is_home : y ≡ r → s ≡ bring_home s r
+  is_home e = rw (eq-eqb (home_row s r) r (sym y-is ∙ e))
 
-    pub can-trade : CanTrade slots counts d.slots y x
-    can-trade = rw (at, x-is) (can.lists away)
+  module _ (ne : y ≡ r → ⊥) where
+    pub can-trade : CanTrade s.slots.entries s.slots.counts s.head.slots y r
+    can-trade =
+        record {
+          places = record {
+            first = omega (arith, row-end y s.head.h s.head.slots low-y, v.limits.entries);
+            second = omega (arith, row-end r s.head.h s.head.slots hr, v.limits.entries);
+            apart = rows_apart s.head.slots y r ne;
+          };
+          y-in = omega (arith, low-y, v.limits.counts);
+          x-in = omega (arith, v.limits.counts);
+        }
 
-    pub can-trade-words : Apart words (y * words_for d.n) (x * words_for d.n) (words_for d.n)
-    can-trade-words = rw (at, x-is) (can.tails away)
+    pub can-trade-words : Apart s.words (y * words_for s.head.n) (r * words_for s.head.n) (words_for s.head.n)
+    can-trade-words =
+        record {
+          first = omega (arith, row-end y s.head.h (words_for s.head.n) low-y, v.limits.words);
+          second = omega (arith, row-end r s.head.h (words_for s.head.n) hr, v.limits.words);
+          apart = rows_apart (words_for s.head.n) y r ne;
+        }
 
-    pub can-turn : CanSwap logicals homes home r
-    can-turn = rw home-is can.maps
+    pub can-turn : CanSwap s.rows.logicals s.rows.homes y r
+    can-turn =
+        record {
+          i-in = omega (arith, low-y, v.maps.rows.g-long);
+          j-in = omega (arith, v.maps.rows.g-long);
+          i-home = omega (arith, v.maps.rows.g-below y low-y, v.maps.rows.f-long);
+          j-home = omega (arith, v.maps.rows.g-below r hr, v.maps.rows.f-long);
+        }
 
-    pub brought : (S C H L W : List ℕ) → (S ≡ exchanged slots (y * d.slots) (x * d.slots) d.slots) × (C ≡ swapped counts y x)
-        → W ≡ exchanged words (y * words_for d.n) (x * words_for d.n) (words_for d.n)
-        → (L ≡ swapped logicals home r) × (H ≡ turned logicals homes home r)
-        → RowsOf (bring_home (rows_over d slots counts homes logicals words) r) S C H L W
-    brought S C H L W sc w lh =
-        rw (ne_eqb (get_or homes r 0) r away)
-        (record {
-          lists = record { slots-are = sc.0 ∙ rw (at, x-is); counts-are = sc.1 ∙ rw (at, x-is) };
-          homes-are = lh.1 ∙ rw home-is;
-          logicals-are = lh.0 ∙ rw home-is;
-          words_are = w ∙ rw (at, x-is);
-        })
+    pub brought : (S C H L W : List ℕ) → (S ≡ exchanged s.slots.entries (y * s.head.slots) (r * s.head.slots) s.head.slots) × (C ≡ swapped s.slots.counts y r)
+        → W ≡ exchanged s.words (y * words_for s.head.n) (r * words_for s.head.n) (words_for s.head.n)
+        → (L ≡ swapped s.rows.logicals y r) × (H ≡ turned s.rows.logicals s.rows.homes y r)
+        → ◌≡◌ {A = Store} (record { head = s.head; slots = record { entries = S; counts = C }; rows = record { homes = H; logicals = L }; columns = s.columns; index = s.index; words = W }) (bring_home s r)
+    brought S C H L W sc w lh = rw (ne_eqb (home_row s r) r (λ e. ne (y-is ∙ e)), sc.0, sc.1, lh.0, lh.1, w, y-is)
 
 -- ---- the rows from home k on are cleared
-module _ (d : Numbers) (slots counts homes logicals words : List ℕ) (k : ℕ) (can : CanDrop d slots counts homes logicals words k)
-    (from to : ℕ) (from_is : from ≡ k) (to_is : to ≡ d.h) where
-  pub drop-slots : (cap : ℕ) → cap ≡ d.slots → Stretch slots (from * cap) (to * cap)
-  drop-slots cap cap-is = rw (from_is, to_is, cap-is) (record { in_order = mul-le-mul_right d.slots can.low; in-it = can.slots-in })
+module _ (s : Store) (v : WellFormed s) (k : ℕ) (low : k ≤ s.head.h) where
+  pub drop-slots : Stretch s.slots.entries (k * s.head.slots) (s.head.h * s.head.slots)
+  drop-slots = record { in_order = mul-le-mul_right s.head.slots low; in-it = v.limits.entries }
 
-  pub drop-words : (size : ℕ) → size ≡ words_for d.n → Stretch words (from * size) (to * size)
-  drop-words size size_is = rw (from_is, to_is, size_is) (record { in_order = mul-le-mul_right (words_for d.n) can.low; in-it = can.words-in })
+  pub drop-words : (size : ℕ) → size ≡ words_for s.head.n → Stretch s.words (k * size) (s.head.h * size)
+  drop-words size size_is = rw size_is (record { in_order = mul-le-mul_right (words_for s.head.n) low; in-it = v.limits.words })
 
-  pub dropped : (cap size : ℕ) → cap ≡ d.slots → size ≡ words_for d.n → (S C H L W : List ℕ) → S ≡ put_at slots (from * cap) (zeros (to * cap - from * cap)) → C ≡ put_at counts from (zeros (to - from))
-      → H ≡ put_at homes from (zeros (to - from)) → L ≡ put_at logicals from (zeros (to - from)) → W ≡ put_at words (from * size) (zeros (to * size - from * size))
-      → RowsOf (drop_rows k (rows_over d slots counts homes logicals words)) S C H L W
-  dropped cap size cap-is size_is S C H L W s c h l w =
-      record {
-        lists = record { slots-are = s ∙ rw (from_is, to_is, cap-is); counts-are = c ∙ rw (from_is, to_is) };
-        homes-are = h ∙ rw (from_is, to_is);
-        logicals-are = l ∙ rw (from_is, to_is);
-        words_are = w ∙ rw (from_is, to_is, size_is);
-      }
+  pub dropped : (size : ℕ) → size ≡ words_for s.head.n → (S C H L W : List ℕ)
+      → S ≡ put_at s.slots.entries (k * s.head.slots) (zeros (s.head.h * s.head.slots - k * s.head.slots)) → C ≡ put_at s.slots.counts k (zeros (s.head.h - k))
+      → H ≡ put_at s.rows.homes k (zeros (s.head.h - k)) → L ≡ put_at s.rows.logicals k (zeros (s.head.h - k)) → W ≡ put_at s.words (k * size) (zeros (s.head.h * size - k * size))
+      → ◌≡◌ {A = Store} (record { head = record { h = k; w = s.head.w; n = s.head.n; slots = s.head.slots; made = s.head.made; on = s.head.on }; slots = record { entries = S; counts = C }; rows = record { homes = H; logicals = L }; columns = s.columns; index = s.index; words = W }) (drop_rows k s)
+  dropped size size_is S C H L W a b c d e = rw (a, b, c, d, e, size_is)
 
 -- ---- home row y keeps the columns below w
-module _ (slots counts logicals : List ℕ) (k y w : ℕ) (can : CanKeep slots counts logicals k y) (n : ℕ) (n-is : n ≡ get_or counts y 0) where
-  pub keep-can : CanRetain slots (y * k) n k logicals
-  keep-can = rw n-is can.row
-
-  row_is : part slots (y * k) n ≡ row_of slots counts k y
+module _ (s : Store) (v : WellFormed s) (y : ℕ) (low : y < s.head.h) (w : ℕ) where
+  pub row-can : CanRetain s.slots.entries (y * s.head.slots) (get_or s.slots.counts y 0) s.head.slots s.columns.logicals
   unfolding row_of
-  row_is = rw n-is
+  row-can =
+      record {
+        row = (frame-take s (edge s) (frame-of s v) y low).row;
+        mapped = record { low = λ j h. omega (arith, v.rows.home y (get_or (row s y) j 0) low (member-at (row s y) j h), v.maps.columns.g-long) };
+      }
+
+  pub counted : y < length s.slots.counts
+  counted = omega (arith, v.limits.counts)
 
   module _ (S : List ℕ) (kept : ℕ)
-      (left : (kept ≡ length (kept_below logicals w (part slots (y * k) n))) × (S ≡ put_row slots (y * k) k (kept_below logicals w (part slots (y * k) n)))) where
+      (left : (kept ≡ length (kept_below s.columns.logicals w (part s.slots.entries (y * s.head.slots) (get_or s.slots.counts y 0)))) × (S ≡ put_row s.slots.entries (y * s.head.slots) s.head.slots (kept_below s.columns.logicals w (part s.slots.entries (y * s.head.slots) (get_or s.slots.counts y 0))))) where
     pub kept_low : kept ≤ 65535
     kept_low =
-        omega (arith, left.0, kept-length (part slots (y * k) n) logicals w, part_length slots (y * k) n (omega (arith, keep-can.row.fits, keep-can.row.room)), keep-can.row.room, can.small)
+        omega (arith, left.0, kept-length (part s.slots.entries (y * s.head.slots) (get_or s.slots.counts y 0)) s.columns.logicals w, part_length s.slots.entries (y * s.head.slots) (get_or s.slots.counts y 0) (omega (arith, row-can.row.fits, row-can.row.room)), row-can.row.room, v.limits.slots)
 
-    pub row_kept : (S ≡ put_row slots (y * k) k (kept_below logicals w (row_of slots counts k y))) × (set counts y kept ≡ set counts y (length (kept_below logicals w (row_of slots counts k y))))
-    row_kept = (left.1 ∙ rw row_is, rw (left.0, row_is))
+    pub row_kept : ◌≡◌ {A = Store} (record { head = s.head; slots = record { entries = S; counts = set s.slots.counts y kept }; rows = s.rows; columns = s.columns; index = s.index; words = s.words }) (with_row s y (kept_below s.columns.logicals w (row s y)))
+    unfolding row_of
+    row_kept = rw (left.0, left.1)

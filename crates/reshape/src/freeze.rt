@@ -9,21 +9,21 @@ ghost use Rattle.tail.specs.Tail.{InTail, tail_put};
 ghost use Rattle.table.specs.declared.Op.TheVariants.{Freeze};
 ghost use Rattle.model.specs.WellFormed.{WellFormed};
 ghost use Rattle.model.specs.Step.{inner, result_of};
-ghost use Rattle.store_head.specs.Lent.{store_of, full_of};
-ghost use Rattle.store_head.specs.Told.{changed_told};
-ghost use Rattle.store_head.specs.Refused.{refusal_of};
+ghost use Rattle.store_head.specs.Lent.{seen, full_of};
+ghost use Rattle.store_head.specs.Writing.{cells, SameCells};
+ghost use Rattle.store_head.specs.Told.{change_told};
+ghost use Rattle.store_head.specs.Refused.{refusal_of, refused_by};
 ghost use Rattle.reshape.specs.Frozen.{freezing, CanTake};
 
 use sparse_vec::Row;
-use store_head::{Changed, Numbers, places, refusals};
+use store_head::{CellsMut, Refusal, Store, places};
 
 // How many words `h` rows of one column more have.
 fn words_wanted(h: u32, n: u32) -> usize
     requires { (h ≤ 65535) × (n ≤ 65535) }
     ensures { result ≡ h * words_for (suc n) }
 {
-    let size = tail::words_for(n + 1);
-    places::place(h) * size
+    h as usize * tail::words_for(n + 1)
 }
 
 // Takes `z` out of home row `y`, and answers whether it was there.
@@ -55,123 +55,48 @@ fn put_first(words: &mut [u64], n: u32, y: usize, had: bool)
     tail::put(words, n, y, 0, true);
 }
 
-// The refusal of FREEZE, and 0 where there is none: 5 past the width, 6 not the last sparse column, 9 the index off, 13 too few words.
-pub fn refuse_freeze(
-    head: Numbers,
-    slots: &[u16],
-    counts: &[u16],
-    row_homes: &[u32],
-    row_logicals: &[u32],
-    column_homes: &[u16],
-    column_logicals: &[u16],
-    marks: &[u8],
-    starts: &[u64],
-    entries: &[u32],
-    words: &[u64],
-    c: u32,
-) -> u32
-    requires { WellFormed (store_of head slots.now counts.now row_homes.now row_logicals.now column_homes.now column_logicals.now marks.now starts.now entries.now words.now) }
-    ensures { result ≡ refusal_of (inner (Freeze (freezing c)) (full_of (store_of head slots.now counts.now row_homes.now row_logicals.now column_homes.now column_logicals.now marks.now starts.now entries.now words.now) [])) }
+// The refusal of FREEZE: 5 past the width, 6 not the last sparse column, 9 the index off, 13 too few words.
+pub fn refuse_freeze(store: &Store, c: u32) -> Result<(), Refusal>
+    requires { WellFormed (seen store.now) }
+    ensures { refused_by result ≡ refusal_of (inner (Freeze (freezing c)) (full_of (seen store.now) [])) }
 {
+    let head = store.head;
     if head.w <= c {
-        return refusals::COLUMN;
+        return Err(Refusal::Column);
     }
     if c + 1 != head.w - head.n {
-        return refusals::SIDE;
+        return Err(Refusal::Side);
     }
     if !head.on {
-        return refusals::PHASE;
+        return Err(Refusal::Phase);
     }
     let wanted = words_wanted(head.h, head.n);
-    if words.len() < wanted {
-        return refusals::WORDS;
+    if store.words.len() < wanted {
+        return Err(Refusal::Words);
     }
-    0
+    Ok(())
 }
 
-// The tail grows by a zero column on the left; then each listed row that still has the column moves its one there.
-fn freeze_last(
-    mut head: Numbers,
-    slots: &mut [u16],
-    counts: &mut [u16],
-    row_homes: &[u32],
-    row_logicals: &[u32],
-    column_homes: &[u16],
-    column_logicals: &[u16],
-    marks: &[u8],
-    starts: &[u64],
-    entries: &[u32],
-    words: &mut [u64],
-    c: u32,
-) -> Changed
-    requires well_formed { WellFormed (store_of head slots.old counts.old row_homes.now row_logicals.now column_homes.now column_logicals.now marks.now starts.now entries.now words.old) }
-    requires value { 0 ≡ refusal_of (inner (Freeze (freezing c)) (full_of (store_of head slots.old counts.old row_homes.now row_logicals.now column_homes.now column_logicals.now marks.now starts.now entries.now words.old) [])) }
-    ensures { changed_told head result (λ d. store_of d slots.new counts.new row_homes.now row_logicals.now column_homes.now column_logicals.now marks.now starts.now entries.now words.new) ≡ result_of (full_of (store_of head slots.old counts.old row_homes.now row_logicals.now column_homes.now column_logicals.now marks.now starts.now entries.now words.old) []) (inner (Freeze (freezing c)) (full_of (store_of head slots.old counts.old row_homes.now row_logicals.now column_homes.now column_logicals.now marks.now starts.now entries.now words.old) [])) }
+// FREEZE: "column w-n-1 joins the tail, cells kept". The tail grows by a zero column on the left; then each listed row that still has the column moves its one there.
+pub fn hint_column_dense_and_frozen_in(store: &mut CellsMut, c: u32) -> Result<(), Refusal>
+    requires { WellFormed (cells store.old) }
+    ensures told { change_told result (cells store.new) ≡ result_of (full_of (cells store.old) []) (inner (Freeze (freezing c)) (full_of (cells store.old) [])) }
+    ensures same { SameCells store.old store.new }
 {
+    refuse_freeze(&store.view(), c)?;
+    let head = store.head;
     let k = head.slots as usize;
-    let z = permutation::home_column(column_homes, places::column(c));
-    let x = z.0;
-    tail::grow(words, head.n, head.h as usize);
+    let z = permutation::home_column(store.column_homes, places::column(c)).0;
+    tail::grow(store.words, head.n, head.h as usize);
     let n = head.n + 1;
-    let list = arraymap::get(starts, entries, places::wide(x));
-    let mut i = 0;
-    while i < list.len() {
-        let y = places::place(list[i]);
-        let had = take_out(slots, counts, k, y, x);
+    let slots = &mut *store.slots;
+    let counts = &mut *store.counts;
+    let words = &mut *store.words;
+    for row in arraymap::get(store.starts, store.entries, z as usize) {
+        let y = *row as usize;
+        let had = take_out(slots, counts, k, y, z);
         put_first(words, n, y, had);
-        i += 1;
     }
-    head.n = n;
-    Changed::Done(head)
-}
-
-// FREEZE: "column w-n-1 joins the tail, cells kept".
-pub fn hint_column_dense_and_frozen_in(
-    head: Numbers,
-    slots: &mut [u16],
-    counts: &mut [u16],
-    row_homes: &[u32],
-    row_logicals: &[u32],
-    column_homes: &[u16],
-    column_logicals: &[u16],
-    marks: &[u8],
-    starts: &[u64],
-    entries: &[u32],
-    words: &mut [u64],
-    c: u32,
-) -> Changed
-    requires { WellFormed (store_of head slots.old counts.old row_homes.now row_logicals.now column_homes.now column_logicals.now marks.now starts.now entries.now words.old) }
-    ensures { changed_told head result (λ d. store_of d slots.new counts.new row_homes.now row_logicals.now column_homes.now column_logicals.now marks.now starts.now entries.now words.new) ≡ result_of (full_of (store_of head slots.old counts.old row_homes.now row_logicals.now column_homes.now column_logicals.now marks.now starts.now entries.now words.old) []) (inner (Freeze (freezing c)) (full_of (store_of head slots.old counts.old row_homes.now row_logicals.now column_homes.now column_logicals.now marks.now starts.now entries.now words.old) [])) }
-{
-    let no = refuse_freeze(
-        head,
-        slots,
-        counts,
-        row_homes,
-        row_logicals,
-        column_homes,
-        column_logicals,
-        marks,
-        starts,
-        entries,
-        words,
-        c,
-    );
-    if no != 0 {
-        return Changed::No(no);
-    }
-    freeze_last(
-        head,
-        slots,
-        counts,
-        row_homes,
-        row_logicals,
-        column_homes,
-        column_logicals,
-        marks,
-        starts,
-        entries,
-        words,
-        c,
-    )
+    store.head.n = n;
+    Ok(())
 }

@@ -1,22 +1,23 @@
 // RESIZE: "first h rows and w columns stay", by logical number. Each kept row is brought home first, so that the rows that go lie behind those that stay.
-ghost use Rattle.std.specs.Prelude.{◌≡◌, false, ◌&&◌, [], ◌-◌, ◌*◌, ◌≤◌, ltb, length, set};
-ghost use Rattle.laws.specs.Parts.{row_of};
+ghost use Rattle.std.specs.Prelude.{◌≡◌, false, ◌&&◌, [], ◌-◌, ◌*◌, ◌≤◌, ◌<◌, ltb};
 ghost use Rattle.laws.specs.Words.{words_for};
-ghost use Rattle.sparse_vec.specs.Row.{put_row, kept_below};
+ghost use Rattle.sparse_vec.specs.Row.{kept_below};
 ghost use Rattle.permutation.specs.Maps.{swapped};
 ghost use Rattle.lent.specs.Stretch.{Apart};
 ghost use Rattle.table.specs.declared.Op.TheVariants.{Resize};
+ghost use Rattle.model.specs.Store.{row};
 ghost use Rattle.model.specs.WellFormed.{WellFormed};
-ghost use Rattle.model.specs.Change.{exchanged, bring_home, brought_home, drop_rows, kept_columns};
+ghost use Rattle.model.specs.Change.{with_row, exchanged, bring_home, brought_home, drop_rows, drop_columns};
 ghost use Rattle.model.specs.Step.{inner, result_of};
-ghost use Rattle.store_head.specs.Lent.{store_of, full_of, bare_of};
-ghost use Rattle.store_head.specs.Told.{changed_told};
-ghost use Rattle.store_head.specs.Refused.{refusal_of};
-ghost use Rattle.reshape.specs.Resized.{shape, rows_over, RowsOf, ListsOf, CanTrade, CanHome, CanDrop, CanKeep};
+ghost use Rattle.store_head.specs.Lent.{full_of, bare_of};
+ghost use Rattle.store_head.specs.Writing.{shape, SameShape};
+ghost use Rattle.store_head.specs.Told.{change_told};
+ghost use Rattle.store_head.specs.Refused.{refusal_of, refused_by};
+ghost use Rattle.reshape.specs.Resized.{resizing, CanTrade};
 
 use permutation::{HomeRow, LogicalRow};
 use sparse_vec::Row;
-use store_head::{Changed, Numbers, places, refusals};
+use store_head::{Numbers, Refusal, ShapeMut};
 
 // Whether the last columns that go would take a part of the tail and leave a part: "0 < columns dropped < n".
 fn splits(w: u32, n: u32, to: u32) -> bool
@@ -50,249 +51,123 @@ fn trade_words(words: &mut [u64], n: u32, y: usize, x: usize)
     lent::exchange(words, y * k, x * k, k);
 }
 
-// Home row `y` keeps of its list the columns whose logical numbers are below `w`.
-fn keep_row(
-    slots: &mut [u16],
-    counts: &mut [u16],
-    column_logicals: &[u16],
-    k: usize,
-    y: usize,
-    w: u32,
-)
-    requires { CanKeep slots.old counts.old column_logicals.now k y }
-    ensures { (slots.new ≡ put_row slots.old (y * k) k (kept_below column_logicals.now w (row_of slots.old counts.old k y))) × (counts.new ≡ set counts.old y (length (kept_below column_logicals.now w (row_of slots.old counts.old k y)))) }
-{
-    let row = Row {
-        at: y * k,
-        len: counts[y] as usize,
-        cap: k,
-    };
-    let kept = sparse_vec::retain(slots, row, column_logicals, w);
-    counts[y] = kept as u16;
-}
-
-// The refusal of RESIZE, and 0 where there is none: 8 where it grows or splits the tail, 9 while the index is on. It looks at the head alone.
-pub fn refuse_resize(head: Numbers, h: u32, w: u32) -> u32
-    ensures { result ≡ refusal_of (inner (Resize (shape h w)) (full_of (bare_of head) [])) }
+// The refusal of RESIZE: 8 where it grows or splits the tail, 9 while the index is on. It looks at the head alone.
+pub fn refuse_resize(head: Numbers, h: u32, w: u32) -> Result<(), Refusal>
+    ensures { refused_by result ≡ refusal_of (inner (Resize (resizing h w)) (full_of (bare_of head) [])) }
 {
     if head.h < h {
-        return refusals::SHRINK;
+        return Err(Refusal::Shrink);
     }
     if head.w < w {
-        return refusals::SHRINK;
+        return Err(Refusal::Shrink);
     }
     if splits(head.w, head.n, w) {
-        return refusals::SHRINK;
+        return Err(Refusal::Shrink);
     }
     if head.on {
-        return refusals::PHASE;
+        return Err(Refusal::Phase);
     }
-    0
+    Ok(())
 }
 
 // Row `r` changes places with what is kept in home `r`.
-fn bring_home(
-    head: Numbers,
-    slots: &mut [u16],
-    counts: &mut [u16],
-    row_homes: &mut [u32],
-    row_logicals: &mut [u32],
-    words: &mut [u64],
-    r: u32,
-)
-    requires { CanHome head slots.old counts.old row_homes.old row_logicals.old words.old r }
-    ensures { RowsOf (bring_home (rows_over head slots.old counts.old row_homes.old row_logicals.old words.old) r) slots.new counts.new row_homes.new row_logicals.new words.new }
+fn bring_home(store: &mut ShapeMut, r: u32)
+    requires well_formed { WellFormed (shape store.old) }
+    requires r_low { r < store.old.head.h }
+    ensures told { shape store.new ≡ bring_home (shape store.old) r }
+    ensures same { SameShape store.old store.new }
 {
-    let home = permutation::home_row(row_homes, LogicalRow(r));
-    let y = places::row_place(home);
-    let x = places::place(r);
+    let head = store.head;
+    let home = store.home_row(LogicalRow(r));
+    let y = home.0 as usize;
+    let x = r as usize;
     if y == x {
         return;
     }
-    trade_lists(slots, counts, head.slots as usize, y, x);
-    trade_words(words, head.n, y, x);
-    permutation::swap_home_rows(row_homes, row_logicals, home, HomeRow(r));
+    trade_lists(store.slots, store.counts, head.slots as usize, y, x);
+    trade_words(store.words, head.n, y, x);
+    permutation::swap_home_rows(store.row_homes, store.row_logicals, home, HomeRow(r));
 }
 
 // The rows 0 to k-1 are brought home.
-fn bring_all(
-    head: Numbers,
-    slots: &mut [u16],
-    counts: &mut [u16],
-    row_homes: &mut [u32],
-    row_logicals: &mut [u32],
-    column_homes: &[u16],
-    column_logicals: &[u16],
-    marks: &[u8],
-    starts: &[u64],
-    entries: &[u32],
-    words: &mut [u64],
-    k: u32,
-)
-    requires well_formed { WellFormed (store_of head slots.old counts.old row_homes.old row_logicals.old column_homes.now column_logicals.now marks.now starts.now entries.now words.old) }
-    requires on_value { head.on ≡ false }
-    requires k_le_h { k ≤ head.h }
-    ensures { RowsOf (brought_home k (store_of head slots.old counts.old row_homes.old row_logicals.old column_homes.now column_logicals.now marks.now starts.now entries.now words.old)) slots.new counts.new row_homes.new row_logicals.new words.new }
+fn bring_all(store: &mut ShapeMut, k: u32)
+    requires well_formed { WellFormed (shape store.old) }
+    requires off { store.old.head.on ≡ false }
+    requires k_low { k ≤ store.old.head.h }
+    ensures told { shape store.new ≡ brought_home k (shape store.old) }
+    ensures same { SameShape store.old store.new }
 {
-    let mut r = 0;
-    while r < k {
-        bring_home(head, slots, counts, row_homes, row_logicals, words, r);
-        r += 1;
+    for r in 0..k {
+        bring_home(store, r);
     }
 }
 
 // The rows from home `k` on are cleared.
-fn drop_rows(
-    head: Numbers,
-    slots: &mut [u16],
-    counts: &mut [u16],
-    row_homes: &mut [u32],
-    row_logicals: &mut [u32],
-    words: &mut [u64],
-    k: u32,
-)
-    requires { CanDrop head slots.old counts.old row_homes.old row_logicals.old words.old k }
-    ensures { RowsOf (drop_rows k (rows_over head slots.old counts.old row_homes.old row_logicals.old words.old)) slots.new counts.new row_homes.new row_logicals.new words.new }
+fn drop_rows(store: &mut ShapeMut, k: u32)
+    requires well_formed { WellFormed (shape store.old) }
+    requires k_low { k ≤ store.old.head.h }
+    ensures told { shape store.new ≡ drop_rows k (shape store.old) }
+    ensures same { SameShape store.old store.new }
 {
-    let from = places::place(k);
-    let to = places::place(head.h);
-    let cap = places::place(head.slots);
+    let head = store.head;
+    let from = k as usize;
+    let to = head.h as usize;
+    let cap = head.slots as usize;
     let size = tail::words_for(head.n);
-    lent::clear(words, from * size, to * size);
-    lent::clear(slots, from * cap, to * cap);
-    lent::clear(counts, from, to);
-    lent::clear(row_homes, from, to);
-    lent::clear(row_logicals, from, to);
+    lent::clear(store.words, from * size, to * size);
+    lent::clear(store.slots, from * cap, to * cap);
+    lent::clear(store.counts, from, to);
+    lent::clear(store.row_homes, from, to);
+    lent::clear(store.row_logicals, from, to);
+    store.head.h = k;
 }
 
-// Every row keeps the columns below `w`.
-fn keep_columns(
-    head: Numbers,
-    slots: &mut [u16],
-    counts: &mut [u16],
-    row_homes: &[u32],
-    row_logicals: &[u32],
-    column_homes: &[u16],
-    column_logicals: &[u16],
-    marks: &[u8],
-    starts: &[u64],
-    entries: &[u32],
-    words: &[u64],
-    w: u32,
-)
-    requires well_formed { WellFormed (store_of head slots.old counts.old row_homes.now row_logicals.now column_homes.now column_logicals.now marks.now starts.now entries.now words.now) }
-    requires on_value { head.on ≡ false }
-    ensures { ListsOf (kept_columns head.h w (store_of head slots.old counts.old row_homes.now row_logicals.now column_homes.now column_logicals.now marks.now starts.now entries.now words.now)) slots.new counts.new }
+// Home row `y` keeps of its list the columns whose logical numbers are below `w`.
+fn keep_row(store: &mut ShapeMut, y: usize, w: u32)
+    requires well_formed { WellFormed (shape store.old) }
+    requires y_low { y < store.old.head.h }
+    ensures told { shape store.new ≡ with_row (shape store.old) y (kept_below store.old.column_logicals.now w (row (shape store.old) y)) }
+    ensures same { SameShape store.old store.new }
 {
-    let mut y = 0;
-    while y < head.h {
-        keep_row(
-            slots,
-            counts,
-            column_logicals,
-            head.slots as usize,
-            places::place(y),
-            w,
-        );
-        y += 1;
-    }
+    let k = store.head.slots as usize;
+    let row = Row {
+        at: y * k,
+        len: store.counts[y] as usize,
+        cap: k,
+    };
+    let slots = &mut *store.slots;
+    let kept = sparse_vec::retain(slots, row, store.column_logicals, w);
+    store.counts[y] = kept as u16;
 }
 
-// The kept rows are brought home and the others cleared; where columns go, so does the whole tail.
-fn shrink(
-    mut head: Numbers,
-    slots: &mut [u16],
-    counts: &mut [u16],
-    row_homes: &mut [u32],
-    row_logicals: &mut [u32],
-    column_homes: &[u16],
-    column_logicals: &[u16],
-    marks: &[u8],
-    starts: &[u64],
-    entries: &[u32],
-    words: &mut [u64],
-    h: u32,
-    w: u32,
-) -> Changed
-    requires well_formed { WellFormed (store_of head slots.old counts.old row_homes.old row_logicals.old column_homes.now column_logicals.now marks.now starts.now entries.now words.old) }
-    requires value { 0 ≡ refusal_of (inner (Resize (shape h w)) (full_of (store_of head slots.old counts.old row_homes.old row_logicals.old column_homes.now column_logicals.now marks.now starts.now entries.now words.old) [])) }
-    ensures { changed_told head result (λ d. store_of d slots.new counts.new row_homes.new row_logicals.new column_homes.now column_logicals.now marks.now starts.now entries.now words.new) ≡ result_of (full_of (store_of head slots.old counts.old row_homes.old row_logicals.old column_homes.now column_logicals.now marks.now starts.now entries.now words.old) []) (inner (Resize (shape h w)) (full_of (store_of head slots.old counts.old row_homes.old row_logicals.old column_homes.now column_logicals.now marks.now starts.now entries.now words.old) [])) }
+// Every row keeps the columns below `w`, and the whole tail goes.
+fn drop_columns(store: &mut ShapeMut, w: u32)
+    requires well_formed { WellFormed (shape store.old) }
+    requires off { store.old.head.on ≡ false }
+    ensures told { shape store.new ≡ drop_columns w (shape store.old) }
+    ensures same { SameShape store.old store.new }
 {
-    bring_all(
-        head,
-        slots,
-        counts,
-        row_homes,
-        row_logicals,
-        column_homes,
-        column_logicals,
-        marks,
-        starts,
-        entries,
-        words,
-        h,
-    );
-    drop_rows(head, slots, counts, row_homes, row_logicals, words, h);
-    head.h = h;
-    if w == head.w {
-        return Changed::Done(head);
+    let head = store.head;
+    let h = head.h as usize;
+    for y in 0..h {
+        keep_row(store, y, w);
     }
-    keep_columns(
-        head,
-        slots,
-        counts,
-        row_homes,
-        row_logicals,
-        column_homes,
-        column_logicals,
-        marks,
-        starts,
-        entries,
-        words,
-        w,
-    );
-    lent::clear(words, 0, places::place(h) * tail::words_for(head.n));
-    head.w = w;
-    head.n = 0;
-    Changed::Done(head)
+    lent::clear(store.words, 0, h * tail::words_for(head.n));
+    store.head = Numbers { w: w, n: 0, ..head };
 }
 
 // RESIZE: "first h rows and w columns stay; n stays if w is equal, else 0".
-pub fn resize_in(
-    head: Numbers,
-    slots: &mut [u16],
-    counts: &mut [u16],
-    row_homes: &mut [u32],
-    row_logicals: &mut [u32],
-    column_homes: &[u16],
-    column_logicals: &[u16],
-    marks: &[u8],
-    starts: &[u64],
-    entries: &[u32],
-    words: &mut [u64],
-    h: u32,
-    w: u32,
-) -> Changed
-    requires { WellFormed (store_of head slots.old counts.old row_homes.old row_logicals.old column_homes.now column_logicals.now marks.now starts.now entries.now words.old) }
-    ensures { changed_told head result (λ d. store_of d slots.new counts.new row_homes.new row_logicals.new column_homes.now column_logicals.now marks.now starts.now entries.now words.new) ≡ result_of (full_of (store_of head slots.old counts.old row_homes.old row_logicals.old column_homes.now column_logicals.now marks.now starts.now entries.now words.old) []) (inner (Resize (shape h w)) (full_of (store_of head slots.old counts.old row_homes.old row_logicals.old column_homes.now column_logicals.now marks.now starts.now entries.now words.old) [])) }
+pub fn resize_in(store: &mut ShapeMut, h: u32, w: u32) -> Result<(), Refusal>
+    requires { WellFormed (shape store.old) }
+    ensures told { change_told result (shape store.new) ≡ result_of (full_of (shape store.old) []) (inner (Resize (resizing h w)) (full_of (shape store.old) [])) }
+    ensures same { SameShape store.old store.new }
 {
-    let no = refuse_resize(head, h, w);
-    if no != 0 {
-        return Changed::No(no);
+    let head = store.head;
+    refuse_resize(head, h, w)?;
+    bring_all(store, h);
+    drop_rows(store, h);
+    if w != head.w {
+        drop_columns(store, w);
     }
-    shrink(
-        head,
-        slots,
-        counts,
-        row_homes,
-        row_logicals,
-        column_homes,
-        column_logicals,
-        marks,
-        starts,
-        entries,
-        words,
-        h,
-        w,
-    )
+    Ok(())
 }

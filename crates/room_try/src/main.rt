@@ -7,202 +7,62 @@ ghost use Rattle.std.specs.Prelude.{◌≤◌, ◌<◌, length};
 
 use operations::Told;
 use records::Read;
-use sparse_matrix::Head;
-use store_head::Numbers;
+use sparse_matrix::{Refusal, StoreMut};
 use table::Op;
 
-// The head afterwards, and where reading goes on.
-#[derive(Clone, Copy)]
-struct Went {
-    head: Numbers,
-    next: usize,
-}
-
-// The line of WORDS: the row's part of the lent words.
-fn words_line(
-    d: Numbers,
-    slots: &[u16],
-    counts: &[u16],
-    row_homes: &[u32],
-    row_logicals: &[u32],
-    column_homes: &[u16],
-    column_logicals: &[u16],
-    marks: &[u8],
-    starts: &[u64],
-    entries: &[u32],
-    words: &[u64],
-    op: Op,
-) {
-    match op {
-        Op::Words(p) => show::words(Head(d).sub_row(
-            slots,
-            counts,
-            row_homes,
-            row_logicals,
-            column_homes,
-            column_logicals,
-            marks,
-            starts,
-            entries,
-            words,
-            p.r,
-            p.a,
-        )),
-        _ => {}
+// One operation and its line. That of WORDS is the row's part of the lent words.
+fn step(store: &mut StoreMut, answers: &mut [u32], op: Op) {
+    match (operations::call(store, answers, op), op) {
+        (Ok(Told::Words(_)), Op::Words(p)) => {
+            show::words(sparse_matrix::get_sub_row(&store.view(), p.r, p.a).unwrap_or(&[]))
+        }
+        (Ok(told), _) => show::told(told, answers),
+        (Err(refusal), _) => show::refused(refusal),
     }
 }
 
-// One operation and its line.
-fn step(
-    d: Numbers,
-    slots: &mut [u16],
-    counts: &mut [u16],
-    row_homes: &mut [u32],
-    row_logicals: &mut [u32],
-    column_homes: &mut [u16],
-    column_logicals: &mut [u16],
-    marks: &mut [u8],
-    starts: &mut [u64],
-    entries: &mut [u32],
-    words: &mut [u64],
-    answers: &mut [u32],
-    op: Op,
-) -> Numbers {
-    let a = operations::call(
-        d,
-        slots,
-        counts,
-        row_homes,
-        row_logicals,
-        column_homes,
-        column_logicals,
-        marks,
-        starts,
-        entries,
-        words,
-        answers,
-        op,
-    );
-    let told = a.told;
-    show::told(told, answers);
-    match told {
-        Told::Words(n) => words_line(
-            d,
-            slots,
-            counts,
-            row_homes,
-            row_logicals,
-            column_homes,
-            column_logicals,
-            marks,
-            starts,
-            entries,
-            words,
-            op,
-        ),
-        _ => {}
-    }
-    a.head
-}
-
-// One record and its line.
-fn turn(
-    d: Numbers,
-    script: &[u8],
-    at: usize,
-    slots: &mut [u16],
-    counts: &mut [u16],
-    row_homes: &mut [u32],
-    row_logicals: &mut [u32],
-    column_homes: &mut [u16],
-    column_logicals: &mut [u16],
-    marks: &mut [u8],
-    starts: &mut [u64],
-    entries: &mut [u32],
-    words: &mut [u64],
-    answers: &mut [u32],
-) -> Went
+// One record and its line; then where reading goes on.
+fn turn(store: &mut StoreMut, answers: &mut [u32], script: &[u8], at: usize) -> usize
     requires { at < length script.now }
-    ensures { (at < result.next) × (result.next ≤ length script.now) }
+    ensures { (at < result) × (result ≤ length script.now) }
 {
     match records::read_at(script, at) {
-        Read::Whole(r, next) => {
-            let op = r.op;
-            let head = step(
-                d,
-                slots,
-                counts,
-                row_homes,
-                row_logicals,
-                column_homes,
-                column_logicals,
-                marks,
-                starts,
-                entries,
-                words,
-                answers,
-                op,
-            );
-            Went {
-                head: head,
-                next: next,
-            }
+        Read::Whole(record, next) => {
+            step(store, answers, record.op);
+            next
         }
         Read::Wrong(next) => {
-            show::refused(16);
-            Went {
-                head: d,
-                next: next,
-            }
+            show::refused(Refusal::Record);
+            next
         }
         Read::Cut => {
-            show::refused(17);
-            Went {
-                head: d,
-                next: script.len(),
-            }
+            show::refused(Refusal::Cut);
+            script.len()
         }
-        Read::End => Went {
-            head: d,
-            next: script.len(),
-        },
+        Read::End => script.len(),
     }
 }
 
 fn main() {
-    let mut script = [0u8; 4096];
-    let n = io::read_full(0, &mut script);
-    let mut slots = [0u16; 12];
-    let mut counts = [0u16; 4];
-    let mut row_homes = [0u32; 4];
-    let mut row_logicals = [0u32; 4];
-    let mut column_homes = [0u16; 80];
-    let mut column_logicals = [0u16; 80];
-    let mut marks = [0u8; 80];
-    let mut starts = [0u64; 81];
-    let mut entries = [0u32; 5];
-    let mut words = [0u64; 6];
-    let mut answers = [0u32; 2];
-    let mut d = Head::empty().0;
+    let mut bytes = [0; 4096];
+    let n = io::read_full(0, &mut bytes);
+    let script = &bytes[..n];
+    let mut answers = [0; 2];
+    let mut store = StoreMut {
+        head: sparse_matrix::empty(),
+        slots: &mut [0; 12],
+        counts: &mut [0; 4],
+        row_homes: &mut [0; 4],
+        row_logicals: &mut [0; 4],
+        column_homes: &mut [0; 80],
+        column_logicals: &mut [0; 80],
+        marks: &mut [0; 80],
+        starts: &mut [0; 81],
+        entries: &mut [0; 5],
+        words: &mut [0; 6],
+    };
     let mut at = 0;
-    while at < n {
-        let t = turn(
-            d,
-            &script[..n],
-            at,
-            &mut slots,
-            &mut counts,
-            &mut row_homes,
-            &mut row_logicals,
-            &mut column_homes,
-            &mut column_logicals,
-            &mut marks,
-            &mut starts,
-            &mut entries,
-            &mut words,
-            &mut answers,
-        );
-        d = t.head;
-        at = t.next;
+    while at < script.len() {
+        at = turn(&mut store, &mut answers, script, at);
     }
 }

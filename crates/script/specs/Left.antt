@@ -1,6 +1,6 @@
 -- What a run leaves and hands back: 01, "A run takes a list of operations as script records and writes the script program's lines to lent bytes".
 -- Assumes nothing.
-use Rattle.std.specs.Prelude.{List, [], ◌∷◌, ◌++◌, ℕ, zero, suc, ◌+◌, ◌-◌, length}
+use Rattle.std.specs.Prelude.{List, [], ◌∷◌, ◌++◌, ℕ, zero, suc, ◌+◌, ◌-◌, length, Result, Ok, Err}
 use Rattle.std.proofs.lemmas.List.Edits.{sets}
 use Rattle.table.specs.Refusals.{Verdict, refused, done}
 use Rattle.table.specs.Run.{Reply, ok, nay, runs, run, cut}
@@ -13,10 +13,9 @@ use Rattle.records.specs.declared.Read.TheVariants.{Whole, Wrong, Cut, End}
 use Rattle.records.specs.Reading.{read_at}
 use Rattle.records.specs.Records.{records_at, records_of}
 use Rattle.lines.specs.Line.{line_of, line_long}
-use Rattle.store_head.specs.declared.Numbers.{Numbers}
+use Rattle.store_head.specs.declared.refusal.Refusal.{Refusal}
+use Rattle.store_head.specs.Refused.{number_of}
 use Rattle.script.specs.declared.Stand.{Stand}
-use Rattle.script.specs.declared.Ran.{Ran}
-use Rattle.script.specs.declared.Ran.TheVariants as ran
 
 -- "One line per record": the lines of the replies, one after the other
 unfoldable pub lines_of : List Reply → List ℕ
@@ -63,19 +62,16 @@ left_by s out f (done x a) = left_at s 0 0 out x
 abbrev pub run_of : List ℕ → List ℕ → Full → Left
 run_of s out f = left_by s out f (run (well_formed f.store) step line_long (length out) (records_of s) f)
 
--- ---- what the code hands back, in these words
-abbrev pub stand_told : Stand → (Numbers → Full) → List ℕ → Left
-stand_told x left lines = stands x.done x.written (left x.head.0) lines
-
-abbrev pub ran_told : Numbers → Ran → (Numbers → Full) → List ℕ → Left
-ran_told d (ran.Done x) left lines = stand_told x left lines
-ran_told d (ran.No k) left lines = record { reply = nay k; after = left d; lines = lines }
+-- ---- what the code hands back, in these words: the state and the line bytes as they are left
+abbrev pub ran_told : Result Stand Refusal → Full → List ℕ → Left
+ran_told (Ok x) left lines = stands x.done x.written left lines
+ran_told (Err k) left lines = record { reply = nay (number_of k); after = left; lines = lines }
 
 -- how much of what was lent is done and written: none where the run is refused
-abbrev pub done_in : Ran → ℕ
-done_in (ran.Done x) = x.done
-done_in (ran.No k) = 0
+abbrev pub done_in : Result Stand Refusal → ℕ
+done_in (Ok x) = x.done
+done_in (Err k) = 0
 
-abbrev pub written_in : Ran → ℕ
-written_in (ran.Done x) = x.written
-written_in (ran.No k) = 0
+abbrev pub written_in : Result Stand Refusal → ℕ
+written_in (Ok x) = x.written
+written_in (Err k) = 0

@@ -1,161 +1,45 @@
-// The public calls that answer with a number or the sizes: each checks the whole store first, and refuses a damaged one with 1; then its inner twin answers.
-ghost use Rattle.std.specs.Prelude.{◌≡◌, []};
+// The public calls that answer with a number, the sizes or words: each checks the whole store first, and refuses a damaged one with 1; then its inner twin answers.
+ghost use Rattle.std.specs.Prelude.{◌≡◌, [], ◌*◌, get_or};
+ghost use Rattle.laws.specs.Words.{words_for};
 ghost use Rattle.table.specs.declared.Op.TheVariants as op;
 ghost use Rattle.table.specs.Run.{reply_of};
 ghost use Rattle.model.specs.Step.{step};
-ghost use Rattle.store_head.specs.Lent.{store_of, full_of};
-ghost use Rattle.store_head.specs.Told.{number_says, size_says};
+ghost use Rattle.store_head.specs.Lent.{seen, full_of};
+ghost use Rattle.store_head.specs.Told.{number_says, size_says, words_says, WordsAt};
 
-use crate::Head;
-use queries::query;
-use store_head::{Number, Sized, refusals};
+use queries::{query, row_tail};
+use store_check::sound;
+use store_head::{Refusal, Size, Store};
 
-impl Head {
-    // SIZE: height, width and tail.
-    pub fn size(
-        self,
-        slots: &[u16],
-        counts: &[u16],
-        row_homes: &[u32],
-        row_logicals: &[u32],
-        column_homes: &[u16],
-        column_logicals: &[u16],
-        marks: &[u8],
-        starts: &[u64],
-        entries: &[u32],
-        words: &[u64],
-    ) -> Sized
-        ensures { size_says result ≡ reply_of (step op.Size (full_of (store_of self.0 slots.now counts.now row_homes.now row_logicals.now column_homes.now column_logicals.now marks.now starts.now entries.now words.now) [])) }
-    {
-        if !store_check::well_formed(
-            self.0,
-            slots,
-            counts,
-            row_homes,
-            row_logicals,
-            column_homes,
-            column_logicals,
-            marks,
-            starts,
-            entries,
-            words,
-        ) {
-            return Sized::No(refusals::DAMAGED);
-        }
-        query::size_in(
-            self.0,
-            slots,
-            counts,
-            row_homes,
-            row_logicals,
-            column_homes,
-            column_logicals,
-            marks,
-            starts,
-            entries,
-            words,
-        )
-    }
+// SIZE: height, width and tail.
+pub fn size(store: &Store) -> Result<Size, Refusal>
+    ensures { size_says result ≡ reply_of (step op.Size (full_of (seen store.now) [])) }
+{
+    sound(store)?;
+    Ok(query::size_in(store))
+}
 
-    // GET: the bit in row r and column c.
-    pub fn get(
-        self,
-        slots: &[u16],
-        counts: &[u16],
-        row_homes: &[u32],
-        row_logicals: &[u32],
-        column_homes: &[u16],
-        column_logicals: &[u16],
-        marks: &[u8],
-        starts: &[u64],
-        entries: &[u32],
-        words: &[u64],
-        r: u32,
-        c: u32,
-    ) -> Number
-        ensures { number_says result ≡ reply_of (step (op.Get (record { r = r; c = c })) (full_of (store_of self.0 slots.now counts.now row_homes.now row_logicals.now column_homes.now column_logicals.now marks.now starts.now entries.now words.now) [])) }
-    {
-        if !store_check::well_formed(
-            self.0,
-            slots,
-            counts,
-            row_homes,
-            row_logicals,
-            column_homes,
-            column_logicals,
-            marks,
-            starts,
-            entries,
-            words,
-        ) {
-            return Number::No(refusals::DAMAGED);
-        }
-        query::get_in(
-            self.0,
-            slots,
-            counts,
-            row_homes,
-            row_logicals,
-            column_homes,
-            column_logicals,
-            marks,
-            starts,
-            entries,
-            words,
-            r,
-            c,
-        )
-    }
+// GET: the bit in row r and column c.
+pub fn get(store: &Store, r: u32, c: u32) -> Result<u32, Refusal>
+    ensures { number_says result ≡ reply_of (step (op.Get (record { r = r; c = c })) (full_of (seen store.now) [])) }
+{
+    sound(store)?;
+    query::get_in(store, r, c)
+}
 
-    // COUNT: how many of the sparse columns a to b-1 hold one in row r.
-    pub fn count_ones(
-        self,
-        slots: &[u16],
-        counts: &[u16],
-        row_homes: &[u32],
-        row_logicals: &[u32],
-        column_homes: &[u16],
-        column_logicals: &[u16],
-        marks: &[u8],
-        starts: &[u64],
-        entries: &[u32],
-        words: &[u64],
-        r: u32,
-        a: u32,
-        b: u32,
-    ) -> Number
-        ensures { number_says result ≡ reply_of (step (op.Count (record { r = r; a = a; b = b })) (full_of (store_of self.0 slots.now counts.now row_homes.now row_logicals.now column_homes.now column_logicals.now marks.now starts.now entries.now words.now) [])) }
-    {
-        if !store_check::well_formed(
-            self.0,
-            slots,
-            counts,
-            row_homes,
-            row_logicals,
-            column_homes,
-            column_logicals,
-            marks,
-            starts,
-            entries,
-            words,
-        ) {
-            return Number::No(refusals::DAMAGED);
-        }
-        query::count_ones_in(
-            self.0,
-            slots,
-            counts,
-            row_homes,
-            row_logicals,
-            column_homes,
-            column_logicals,
-            marks,
-            starts,
-            entries,
-            words,
-            r,
-            a,
-            b,
-        )
-    }
+// COUNT: how many of the sparse columns a to b-1 hold one in row r.
+pub fn count_ones(store: &Store, r: u32, a: u32, b: u32) -> Result<u32, Refusal>
+    ensures { number_says result ≡ reply_of (step (op.Count (record { r = r; a = a; b = b })) (full_of (seen store.now) [])) }
+{
+    sound(store)?;
+    query::count_ones_in(store, r, a, b)
+}
+
+// WORDS: the words of row r's tail, a part of the lent ones; a is the first tail column.
+pub fn get_sub_row<'a>(store: &Store<'a>, r: u32, a: u32) -> Result<&'a [u64], Refusal>
+    ensures told { words_says result ≡ reply_of (step (op.Words (record { r = r; a = a })) (full_of (seen store.now) [])) }
+    ensures place { WordsAt store.now.words.now (get_or store.now.row_homes.now r 0 * words_for store.now.head.n) (words_for store.now.head.n) result }
+{
+    sound(store)?;
+    row_tail::get_sub_row_in(store, r, a)
 }

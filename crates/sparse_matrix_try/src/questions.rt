@@ -1,305 +1,49 @@
 // What the store is asked: every question, and its refusals.
 use crate::show;
-use sparse_matrix::{Head, Listed};
+use sparse_matrix::Store;
 
 // GET of row 1, column 1.
-pub fn ask(
-    d: Head,
-    slots: &[u16],
-    counts: &[u16],
-    row_homes: &[u32],
-    row_logicals: &[u32],
-    column_homes: &[u16],
-    column_logicals: &[u16],
-    marks: &[u8],
-    starts: &[u64],
-    entries: &[u32],
-    words: &[u64],
-) {
-    show::told(d.get(
-        slots,
-        counts,
-        row_homes,
-        row_logicals,
-        column_homes,
-        column_logicals,
-        marks,
-        starts,
-        entries,
-        words,
-        1,
-        1,
-    ));
+pub fn ask(store: &Store) {
+    get(store, 1, 1);
+}
+
+// GET of row r, column c.
+fn get(store: &Store, r: u32, c: u32) {
+    show::told(sparse_matrix::get(store, r, c).map(|v| [v]));
+}
+
+// COUNT in row r, columns a to b-1.
+fn count(store: &Store, r: u32, a: u32, b: u32) {
+    show::told(sparse_matrix::count_ones(store, r, a, b).map(|n| [n]));
 }
 
 // Every number question and its refusals.
-pub fn numbers(
-    d: Head,
-    slots: &[u16],
-    counts: &[u16],
-    row_homes: &[u32],
-    row_logicals: &[u32],
-    column_homes: &[u16],
-    column_logicals: &[u16],
-    marks: &[u8],
-    starts: &[u64],
-    entries: &[u32],
-    words: &[u64],
-) {
-    show::sizes(d.size(
-        slots,
-        counts,
-        row_homes,
-        row_logicals,
-        column_homes,
-        column_logicals,
-        marks,
-        starts,
-        entries,
-        words,
-    ));
-    show::told(d.get(
-        slots,
-        counts,
-        row_homes,
-        row_logicals,
-        column_homes,
-        column_logicals,
-        marks,
-        starts,
-        entries,
-        words,
-        0,
-        0,
-    ));
-    show::told(d.get(
-        slots,
-        counts,
-        row_homes,
-        row_logicals,
-        column_homes,
-        column_logicals,
-        marks,
-        starts,
-        entries,
-        words,
-        0,
-        1,
-    ));
-    show::told(d.get(
-        slots,
-        counts,
-        row_homes,
-        row_logicals,
-        column_homes,
-        column_logicals,
-        marks,
-        starts,
-        entries,
-        words,
-        0,
-        2,
-    ));
-    show::told(d.get(
-        slots,
-        counts,
-        row_homes,
-        row_logicals,
-        column_homes,
-        column_logicals,
-        marks,
-        starts,
-        entries,
-        words,
-        1,
-        2,
-    ));
-    show::told(d.get(
-        slots,
-        counts,
-        row_homes,
-        row_logicals,
-        column_homes,
-        column_logicals,
-        marks,
-        starts,
-        entries,
-        words,
-        2,
-        3,
-    ));
-    show::told(d.get(
-        slots,
-        counts,
-        row_homes,
-        row_logicals,
-        column_homes,
-        column_logicals,
-        marks,
-        starts,
-        entries,
-        words,
-        1,
-        4294967295,
-    ));
-    show::told(d.count_ones(
-        slots,
-        counts,
-        row_homes,
-        row_logicals,
-        column_homes,
-        column_logicals,
-        marks,
-        starts,
-        entries,
-        words,
-        1,
-        0,
-        2,
-    ));
-    show::told(d.count_ones(
-        slots,
-        counts,
-        row_homes,
-        row_logicals,
-        column_homes,
-        column_logicals,
-        marks,
-        starts,
-        entries,
-        words,
-        1,
-        2,
-        1,
-    ));
-    show::told(d.count_ones(
-        slots,
-        counts,
-        row_homes,
-        row_logicals,
-        column_homes,
-        column_logicals,
-        marks,
-        starts,
-        entries,
-        words,
-        1,
-        0,
-        3,
-    ));
-    show::told(d.get_sub_row(
-        slots,
-        counts,
-        row_homes,
-        row_logicals,
-        column_homes,
-        column_logicals,
-        marks,
-        starts,
-        entries,
-        words,
-        1,
-        2,
-    ));
-    show::words(d.sub_row(
-        slots,
-        counts,
-        row_homes,
-        row_logicals,
-        column_homes,
-        column_logicals,
-        marks,
-        starts,
-        entries,
-        words,
-        1,
-        2,
-    ));
-    show::words(d.sub_row(
-        slots,
-        counts,
-        row_homes,
-        row_logicals,
-        column_homes,
-        column_logicals,
-        marks,
-        starts,
-        entries,
-        words,
-        1,
-        1,
-    ));
+pub fn numbers(store: &Store) {
+    show::told(sparse_matrix::size(store).map(|s| [s.h, s.w, s.n]));
+    get(store, 0, 0);
+    get(store, 0, 1);
+    get(store, 0, 2);
+    get(store, 1, 2);
+    get(store, 2, 3);
+    get(store, 1, u32::MAX);
+    count(store, 1, 0, 2);
+    count(store, 1, 2, 1);
+    count(store, 1, 0, 3);
+    let words = sparse_matrix::get_sub_row(store, 1, 2);
+    show::told(words.map(|ws| [ws.len() as u64]));
+    show::line(b"words", words.unwrap_or(&[]));
+    show::line(
+        b"words",
+        sparse_matrix::get_sub_row(store, 1, 1).unwrap_or(&[]),
+    );
 }
 
 // ITER, TAILONES and COLONES over the answers.
-pub fn lists(
-    d: Head,
-    slots: &[u16],
-    counts: &[u16],
-    row_homes: &[u32],
-    row_logicals: &[u32],
-    column_homes: &[u16],
-    column_logicals: &[u16],
-    marks: &[u8],
-    starts: &[u64],
-    entries: &[u32],
-    words: &[u64],
-    answers: &mut [u32],
-) {
-    match d.get_row_iter(
-        slots,
-        counts,
-        row_homes,
-        row_logicals,
-        column_homes,
-        column_logicals,
-        marks,
-        starts,
-        entries,
-        words,
-        answers,
-        1,
-        0,
-        2,
-    ) {
-        Listed::Count(n) => show::list(answers, n),
-        Listed::No(k) => show::refused(k),
-    }
-    match d.query_non_zero_columns(
-        slots,
-        counts,
-        row_homes,
-        row_logicals,
-        column_homes,
-        column_logicals,
-        marks,
-        starts,
-        entries,
-        words,
-        answers,
-        1,
-        2,
-    ) {
-        Listed::Count(n) => show::list(answers, n),
-        Listed::No(k) => show::refused(k),
-    }
-    match d.get_ones_in_column(
-        slots,
-        counts,
-        row_homes,
-        row_logicals,
-        column_homes,
-        column_logicals,
-        marks,
-        starts,
-        entries,
-        words,
-        answers,
-        0,
-        0,
-        9,
-    ) {
-        Listed::Count(n) => show::list(answers, n),
-        Listed::No(k) => show::refused(k),
-    }
+pub fn lists(store: &Store, answers: &mut [u32]) {
+    let told = sparse_matrix::get_row_iter(store, answers, 1, 0, 2);
+    show::listed(told, answers);
+    let told = sparse_matrix::query_non_zero_columns(store, answers, 1, 2);
+    show::listed(told, answers);
+    let told = sparse_matrix::get_ones_in_column(store, answers, 0, 0, 9);
+    show::listed(told, answers);
 }

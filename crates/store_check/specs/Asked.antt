@@ -1,8 +1,10 @@
 -- What a part of the store check leans on, from the parts before it. Assumes nothing.
-use Rattle.std.specs.Prelude.{List, ℕ, ◌+◌, ◌*◌, ◌≤◌, ◌<◌, length}
+use Rattle.std.specs.Prelude.{◌≡◌, true, ℕ, ◌≤◌, ◌<◌, length}
+use Rattle.laws.specs.Tests.{all_below}
 use Rattle.table.specs.Step.{height_limit, width_limit, slot_limit}
-use Rattle.arraymap.specs.Check.{CanCheck}
-use Rattle.model.specs.Store.{Head}
+use Rattle.model.specs.Store.{Head, Store}
+use Rattle.model.specs.Check.{row_at}
+use Rattle.model.specs.WellFormed.{Limits}
 
 -- the head's numbers keep the limits: no sum or product of them is too large
 pub record Limited (d : Head) : Type 0 where
@@ -12,18 +14,17 @@ pub record Limited (d : Head) : Type 0 where
   pub tail : d.n ≤ d.w
   pub slots : d.slots ≤ slot_limit
 
--- row y has a count, and its k slots lie in the run
-pub record HasRow (slots counts : List ℕ) (k y : ℕ) : Type 0 where
-  pub counted : y < length counts
-  pub fits : y * k + k ≤ length slots
+-- the rows can be tested: the buffers are long enough, and each column made has a logical number
+pub record HasRows (s : Store) : Type 0 where
+  pub limits : Limits s
+  pub mapped : s.head.made ≤ length s.columns.logicals
 
--- each of the head's rows has its count and its slots, and the tail is no wider than the matrix
-pub record HasRows (d : Head) (slots counts : List ℕ) : Type 0 where
-  pub counted : d.h ≤ length counts
-  pub fits : d.h * d.slots ≤ length slots
-  pub tail : d.n ≤ d.w
+-- .. and y is one of them
+pub record HasRow (s : Store) (y : ℕ) : Type 0 where
+  pub rows : HasRows s
+  pub low : y < s.head.h
 
--- the index can be tested: the rows are right, the buffers long enough, and the tail no wider than the matrix
-pub record CanSwitch (d : Head) (slots counts column_logicals marks starts : List ℕ) : Type 0 where
-  pub check : CanCheck slots counts d.h d.slots d.made starts column_logicals marks
-  pub tail : d.n ≤ d.w
+-- the index can be tested: the rows can, and they are right
+pub record HasIndex (s : Store) : Type 0 where
+  pub rows : HasRows s
+  pub right : all_below s.head.h (row_at s) ≡ true

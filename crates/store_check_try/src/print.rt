@@ -1,20 +1,10 @@
 // How the answers are written.
 
-// A line's name.
-pub fn name(text: &[u8]) {
-    io::write_all(1, text);
-}
-
-// An answer in its line.
-pub fn answer(yes: bool) {
-    if yes {
-        io::write_all(1, b" 1");
-    } else {
-        io::write_all(1, b" 0");
+// A line: its name, and 1 or 0 for each answer.
+pub fn line(name: &[u8], answers: &[bool]) {
+    io::write_all(1, name);
+    for yes in answers {
+        io::write_all(1, if *yes { b" 1" } else { b" 0" });
     }
-}
-
-// The end of a line.
-pub fn end() {
     io::write_all(1, b"\n");
 }

@@ -5,7 +5,7 @@ use mathlib.Core.Logic.{⊎_elim}
 use Prim.Native.Nat.{ℕ, ◌+◌, ◌-◌, ◌≤◌, ◌<◌}
 use native.Mathlib.Omega.{arith}
 use native.Mathlib.Nat.{zero-add}
-use lib.ListN.{length, get_or, get_or-eq_default}
+use lib.ListN.{length, get_or}
 use Rattle.laws.specs.Parts.{zeros, put_at}
 use Rattle.laws.proofs.Numbers.{lt-or-le}
 use Rattle.laws.proofs.Parts.{zeros-length, zeros-at, is-zeros, put-length, put-in, put-above}
@@ -26,7 +26,3 @@ all-clear l k fit rest = is-zeros (put_at l 0 (zeros (k - 0))) (length l) (put-l
         (λ low. rw zero-add at (put-in l 0 (zeros (k - 0)) fits i (omega (arith, long)) ∙ zeros-at (k - 0) i))
         (λ high. put-above l 0 (zeros (k - 0)) fits i (omega (arith, long)) ∙ rest i high)
         (lt-or-le i k)
-
--- every place is cleared
-pub whole-clear : (l : List ℕ) → put_at l 0 (zeros (length l - 0)) ≡ zeros (length l)
-whole-clear l = all-clear l (length l) (omega arith) (λ i h. get_or-eq_default l 0 h)

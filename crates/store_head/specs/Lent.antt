@@ -1,7 +1,9 @@
 -- The head and the lent slices as the model's store. Assumes nothing.
-use Rattle.std.specs.Prelude.{List, [], ℕ}
+use Rattle.std.specs.Prelude.{◌≡◌, List, [], ℕ}
 use Rattle.model.specs.Store as model
 use Rattle.store_head.specs.declared.Numbers.{Numbers}
+use Rattle.store_head.specs.declared.store.Store.{Store}
+use Rattle.store_head.specs.declared.store.StoreMut.{StoreMut}
 
 -- the head's numbers
 abbrev pub head_of : Numbers → model.Head
@@ -18,6 +20,29 @@ store_of d slots counts row_homes row_logicals column_homes column_logicals mark
       index = record { starts = starts; entries = entries; marks = marks };
       words = words;
     }
+
+-- a store lent to be asked
+abbrev pub seen : Store → model.Store
+seen s =
+    store_of s.head s.slots.now s.counts.now s.row_homes.now s.row_logicals.now s.column_homes.now s.column_logicals.now s.marks.now s.starts.now s.entries.now s.words.now
+
+-- a store lent to be changed, as it stands at a moment
+abbrev pub lent : StoreMut → model.Store
+lent s =
+    store_of s.head s.slots.now s.counts.now s.row_homes.now s.row_logicals.now s.column_homes.now s.column_logicals.now s.marks.now s.starts.now s.entries.now s.words.now
+
+-- the ten slices are still those that the caller lent
+pub record SameSlices (s t : StoreMut) : Type 0 where
+  pub slots : s.slots.ghost_name ≡ t.slots.ghost_name
+  pub counts : s.counts.ghost_name ≡ t.counts.ghost_name
+  pub row_homes : s.row_homes.ghost_name ≡ t.row_homes.ghost_name
+  pub row_logicals : s.row_logicals.ghost_name ≡ t.row_logicals.ghost_name
+  pub column_homes : s.column_homes.ghost_name ≡ t.column_homes.ghost_name
+  pub column_logicals : s.column_logicals.ghost_name ≡ t.column_logicals.ghost_name
+  pub marks : s.marks.ghost_name ≡ t.marks.ghost_name
+  pub starts : s.starts.ghost_name ≡ t.starts.ghost_name
+  pub entries : s.entries.ghost_name ≡ t.entries.ghost_name
+  pub words : s.words.ghost_name ≡ t.words.ghost_name
 
 abbrev pub full_of : model.Store → List ℕ → model.Full
 full_of s answers = record { store = s; answers = answers }

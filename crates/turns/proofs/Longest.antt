@@ -1,5 +1,5 @@
 -- The longest line that an operation can have: a refusal's number has at most two digits, rows, columns and counts five, a tail word twenty. Assumes nothing.
-use mathlib.Core.Path.{◌≡◌, refl, sym, ap, ◌∙◌}
+use mathlib.Core.Path.{◌≡◌, refl, sym, ◌∙◌}
 use mathlib.Core.Bool.{Bool, true, false, ◌&&◌}
 use mathlib.Core.List.{List, [], ◌∷◌}
 use Prim.Native.Nat.{ℕ, zero, suc, ◌+◌, ◌-◌, ◌*◌, ◌^◌, ◌≤◌, ◌<◌, min}
@@ -30,9 +30,8 @@ use Rattle.model.specs.Step.{inner, full_after}
 use Rattle.lines.specs.Line.{dec, spaced, numbers, line_long}
 use Rattle.lines.proofs.Dec.{one-long, dec-short}
 use Rattle.lines.proofs.Writing.{long_ok, long-no, long-none, long-one, long-three}
-use Rattle.operations.specs.Applied.{Form, form, asks}
+use Rattle.operations.specs.Applied.{Form, form}
 use Rattle.operations.specs.Applied as told
-use Rattle.operations.proofs.Others.{change-form}
 use Rattle.turns.specs.Said.{most_long}
 
 -- ---- lists of numbers with at most m digits each
@@ -172,16 +171,6 @@ module _ (f : Full) (v : WellFormed f.store) where
   unfolding inner
   line-most o = outcome-most (all_checks true o (held_of f)) (full_after o f) (answer o t) (most_long (form o) (length f.answers)) (six (form o)) (answer-most o)
 
--- ---- the code's tests
-pub same-most : (o p : Op) → o ≡ p → (k n : ℕ) → k ≡ most_long (form p) n → k ≡ most_long (form o) n
-same-most o p e k n q = q ∙ ap (λ (h : Op). most_long (form h) n) (sym e)
-
-pub change-most : (o : Op) (n : ℕ) → asks o ≡ false → 6 ≡ most_long (form o) n
-change-most o n h = rw (change-form o h)
-
 -- the longest line has room: so has this one
-pub roomy : (f : Full) → WellFormed f.store → (o : Op) (k room : ℕ) → k ≡ most_long (form o) (length f.answers) → k ≤ room → true ≡ leb (line_long (reply_of (inner o f))) room
-roomy f v o k room e h = sym (le-leb (line_long (reply_of (inner o f))) room (omega (arith, line-most f v o)))
-
-pub measured : (o : Op) (f : Full) (k room : ℕ) → k ≡ line_long (reply_of (inner o f)) → leb k room ≡ leb (line_long (reply_of (inner o f))) room
-measured o f k room e = ap (λ (n : ℕ). leb n room) e
+pub roomy : (f : Full) → WellFormed f.store → (o : Op) (k room : ℕ) → k ≡ most_long (form o) (length f.answers) → k ≤ room → leb k room ≡ leb (line_long (reply_of (inner o f))) room
+roomy f v o k room e h = le-leb k room h ∙ sym (le-leb (line_long (reply_of (inner o f))) room (omega (arith, line-most f v o)))

@@ -1,7 +1,7 @@
 -- How long the line of an operation is: of its number where it is refused, else of its answer. Assumes nothing.
 use mathlib.Core.Path.{◌≡◌, refl, sym, ap, ◌∙◌}
 use mathlib.Core.Bool.{true, false, not, ◌&&◌, true≢false}
-use mathlib.Core.List.{List, [], ◌∷◌}
+use mathlib.Core.List.{List, []}
 use Prim.Native.Nat.{ℕ, ◌+◌, ◌/◌, ◌≤◌, ◌<◌}
 use native.Mathlib.Omega.{arith}
 use lib.Dec.{leb, eqb}
@@ -10,7 +10,7 @@ use borrow.Author.Tests.{leb-false}
 use Rattle.laws.specs.Parts.{over, stretch}
 use Rattle.laws.specs.Words.{words_for}
 use Rattle.laws.proofs.Bools.{quiet-first}
-use Rattle.laws.proofs.Parts.{over-read, tabled-length}
+use Rattle.laws.proofs.Parts.{over-read, stretch-length}
 use Rattle.sparse_vec.specs.Row.{walked}
 use Rattle.tail.specs.Tail.{tail_ones}
 use Rattle.arraymap.specs.Index.{list_at}
@@ -21,39 +21,41 @@ use Rattle.table.specs.declared.Op.TheVariants.{Make, Set, SwapR, SwapC, Add, On
 use Rattle.table.specs.declared.RowRange.{RowRange}
 use Rattle.table.specs.declared.RowTail.{RowTail}
 use Rattle.table.specs.declared.ColumnRange.{ColumnRange}
-use Rattle.table.specs.Table.{Table, tail_word}
+use Rattle.table.specs.Table.{Table}
 use Rattle.table.specs.Step.{answer}
 use Rattle.table.specs.Room.{kind, listed}
-use Rattle.table.specs.Run.{ok, nay, reply_of}
+use Rattle.table.specs.Run.{Reply, ok, nay, reply_of}
 use Rattle.model.specs.Store.{Store, Full, edge, row, home_row, home_column, table_of}
 use Rattle.model.specs.WellFormed.{WellFormed}
 use Rattle.model.specs.Step.{Result, inner, result_of}
 use Rattle.model.proofs.Rows.{frame-of, row-length}
-use Rattle.store_head.specs.declared.Number.{Number}
-use Rattle.store_head.specs.declared.Number.TheVariants as numbered
+use Rattle.std.proofs.lemmas.List.{map-id}
+use Rattle.std.specs.Prelude.{map, Result as Either, Ok, Err, IsErrAnd}
+use Rattle.store_head.specs.declared.refusal.Refusal.{Refusal}
 use Rattle.store_head.specs.Query.{InSlots}
-use Rattle.store_head.proofs.QueryPlaces.{in-slots, row-mapped, tail-in, column-low, column-in, list-in, list-shows}
+use Rattle.store_head.proofs.QueryPlaces.{in-slots, row-mapped, tail-in, column-low, column-in}
 use Rattle.store_head.specs.Lent.{full_of}
-use Rattle.store_head.specs.Refused.{refusal_of}
-use Rattle.store_head.specs.Told.{number_says, handed}
-use Rattle.store_head.proofs.Refuses.{past, accepted, refuses}
-use Rattle.listings.proofs.QueryLists.{iter-low, iter-sparse, iter-fits, iter-is, tail-low, tail-first, tail-some, tail-fits, tail-is}
-use Rattle.listings.proofs.QueryColumn.{colones-wide, colones-sparse, colones-on, colones-exact, colones-fits, colones-is}
+use Rattle.store_head.specs.Refused.{refusal_of, number_of}
+use Rattle.store_head.proofs.Refuses.{past, accepted, refused-by}
+use Rattle.listings.proofs.QueryLists.{iter-low, iter-told, tail-low, tail-first, tail-told}
+use Rattle.listings.proofs.QueryColumn.{colones-wide, colones-gets, colones-shows, colones-told}
 use Rattle.lines.specs.Line.{line_long}
 use Rattle.lines.proofs.Writing.{long-none}
 use Rattle.operations.specs.Applied.{asks}
 use Rattle.operations.proofs.Arms.{aside}
+use Rattle.turns.specs.Said.{long_by}
 
 -- the same operation by another name
 pub as_line : (o p : Op) → o ≡ p → (f : Full) (k : ℕ) → k ≡ line_long (reply_of (inner p f)) → k ≡ line_long (reply_of (inner o f))
 as_line o p e f k q = q ∙ ap (λ (h : Op). line_long (reply_of (inner h f))) (sym e)
 
-pub as-free : (o p : Op) → o ≡ p → (f : Full) (k : ℕ) → k ≡ refusal_of (inner o f) → k ≡ 0 → 0 ≡ refusal_of (inner p f)
-as-free o p e f k q z = sym z ∙ q ∙ ap (λ (h : Op). refusal_of (inner h f)) e
+pub as-free : (o p : Op) → o ≡ p → (f : Full) → 0 ≡ refusal_of (inner o f) → 0 ≡ refusal_of (inner p f)
+as-free o p e f q = q ∙ ap (λ (h : Op). refusal_of (inner h f)) e
 
 -- refused: the line of the number
-pub refused-line : (o : Op) (f : Full) (k : ℕ) → k ≡ refusal_of (inner o f) → (k ≡ 0 → ⊥) → (j : ℕ) → j ≡ line_long (nay k) → j ≡ line_long (reply_of (inner o f))
-refused-line o f k e n j q = q ∙ ap (λ (r : Result). line_long r.reply) (refuses o f k e n)
+pub refused-line : (o : Op) (f : Full) (r : Either ℕ Refusal) (k : Refusal) → IsErrAnd r (λ j. j ≡ k) → number_of k ≡ refusal_of (inner o f) → long_by r ≡ line_long (reply_of (inner o f))
+refused-line o f (Ok n) k h e = absurd h
+refused-line o f (Err j) k h e = ap (λ (i : Refusal). line_long (nay (number_of i))) h ∙ ap (λ (r : Result). line_long r.reply) (refused-by o f k e)
 
 -- not refused: the line of the answer
 pub answer-line : (o : Op) (f : Full) → 0 ≡ refusal_of (inner o f) → (l : List ℕ) → l ≡ answer o (table_of f.store) → (k : ℕ) → k ≡ line_long (ok l) → k ≡ line_long (reply_of (inner o f))
@@ -81,28 +83,33 @@ nothing-told Size t h = absurd (true≢false h)
 pub done-line : (o : Op) (f : Full) → 0 ≡ refusal_of (inner o f) → asks o ≡ false → 3 ≡ line_long (reply_of (inner o f))
 done-line o f free h = answer-line o f free [] (nothing-told o (table_of f.store) h) 3 (sym long-none)
 
--- ---- a number is the same whatever is in the answer buffer
-pub number-line : (o p : Op) → o ≡ p → listed (kind p) ≡ false → (s : Store) (a : List ℕ) (x : Number) → number_says x ≡ reply_of (inner p (full_of s [])) → (k : ℕ) → k ≡ line_long (number_says x)
-    → k ≡ line_long (reply_of (inner o (full_of s a)))
-number-line o p e n s a x q k j = as_line o p e (full_of s a) k (j ∙ ap line_long q ∙ ap (λ (r : Result). line_long r.reply) (aside p n s a))
+-- ---- what answers no list is told the same whatever is in the answer buffer, of a store or of the view of it
+module _ (o p : Op) (e : o ≡ p) (n : listed (kind p) ≡ false) (v s : Store) (same : v ≡ s) (a : List ℕ) where
+  pub asked-line : (r : Reply) → r ≡ reply_of (inner p (full_of v [])) → (k : ℕ) → k ≡ line_long r → k ≡ line_long (reply_of (inner o (full_of s a)))
+  asked-line r q k j =
+      as_line o p e (full_of s a) k (j ∙ ap line_long (q ∙ ap (λ (x : Store). reply_of (inner p (full_of x []))) same) ∙ ap (λ (x : Result). line_long x.reply) (aside p n s a))
+
+  pub asked-refused : (r : Either ℕ Refusal) (k : Refusal) → IsErrAnd r (λ j. j ≡ k) → nay (number_of k) ≡ reply_of (inner p (full_of v [])) → long_by r ≡ line_long (reply_of (inner o (full_of s a)))
+  asked-refused (Ok m) k h q = absurd h
+  asked-refused (Err j) k h q = asked-line (nay (number_of k)) q (line_long (nay (number_of j))) (ap (λ (i : Refusal). line_long (nay (number_of i))) h)
+
+-- ---- a store is asked by a view of it
+module _ (o p : Op) (e : o ≡ p) (v s : Store) (same : v ≡ s) (a : List ℕ) where
+  pub seen-free : 0 ≡ refusal_of (inner o (full_of s a)) → 0 ≡ refusal_of (inner p (full_of v a))
+  seen-free q = rw same (as-free o p e (full_of s a) q)
+
+  pub seen-line : (k : ℕ) → k ≡ line_long (reply_of (inner p (full_of v a))) → k ≡ line_long (reply_of (inner o (full_of s a)))
+  seen-line k q = as_line o p e (full_of s a) k (q ∙ ap (λ (x : Store). line_long (reply_of (inner p (full_of x a)))) same)
 
 -- ---- WORDS
 module _ (p : RowTail) (f : Full) (free : 0 ≡ refusal_of (inner (Words p) f)) where
   pub words-low : p.r < f.store.head.h
   words-low = leb-false f.store.head.h p.r (quiet-first (leb f.store.head.h p.r) (not (not (eqb p.a (edge f.store))) && true) (past (Words p) f free).0)
 
-module _ (p : RowTail) (s : Store) (a l : List ℕ) (free : 0 ≡ refusal_of (inner (Words p) (full_of s a))) (e : l ≡ handed (reply_of (inner (Words p) (full_of s [])))) where
-  handed-answer : l ≡ answer (Words p) (table_of s)
-  handed-answer =
-      e ∙ ap (λ (r : Result). handed r.reply) (aside (Words p) refl s a) ∙ ap (λ (r : Result). handed r.reply) (accepted (Words p) (full_of s a) free)
-
-  pub words-line : (k : ℕ) → k ≡ line_long (ok l) → k ≡ line_long (reply_of (inner (Words p) (full_of s a)))
-  words-line k q = answer-line (Words p) (full_of s a) free l handed-answer k q
-
-  pub words-few : WellFormed s → length l ≤ 65536
-  words-few v =
-      let long : length l ≡ (s.head.n + 63) / 64 = ap length handed-answer ∙ tabled-length (words_for s.head.n) (tail_word (table_of s) p.r) in
-      omega (arith, long, v.limits.tail, v.maps.wide, v.limits.width)
+pub words-few : (s : Store) → WellFormed s → (at : ℕ) (l : List ℕ) → l ≡ stretch s.words at (words_for s.head.n) → length l ≤ 65536
+words-few s v at l e =
+    let long : length l ≡ (s.head.n + 63) / 64 = ap length e ∙ stretch-length s.words at (words_for s.head.n) in
+    omega (arith, long, v.limits.tail, v.maps.wide, v.limits.width)
 
 -- ---- a list, read from the store
 list-line : (f : Full) (o : Op) (l : List ℕ)
@@ -113,21 +120,20 @@ pub iter-line : (p : RowRange) (f : Full) (v : WellFormed f.store) (free : 0 ≡
     → (k : ℕ) → k ≡ line_long (ok (walked f.store.columns.logicals p.a p.b l)) → k ≡ line_long (reply_of (inner (Iter p) f))
 iter-line p f v free y l ey el k q =
     list-line f (Iter p) (walked f.store.columns.logicals p.a p.b l)
-    (iter-is p f (iter-low p f v free) v (iter-sparse p f v free) y l ey el _ refl (iter-fits p f v free y l ey el) _ _ (refl, refl)) k q
+    (iter-told p f v free y l ey el _ _ (refl, refl)) k q
 
 pub tail-line : (p : RowTail) (f : Full) (v : WellFormed f.store) (free : 0 ≡ refusal_of (inner (TailOnes p) f)) (y i : ℕ) → y ≡ home_row f.store p.r → i ≡ y
     → (k : ℕ) → k ≡ line_long (ok (tail_ones f.store.words f.store.head.n i p.a)) → k ≡ line_long (reply_of (inner (TailOnes p) f))
 tail-line p f v free y i ey ei k q =
     list-line f (TailOnes p) (tail_ones f.store.words f.store.head.n i (edge f.store))
-    (tail-is p f (tail-low p f v free) v (tail-first p f v free) (tail-some p f v free) y i ey ei _ refl (tail-fits p f v free y i ey ei) _ _ (refl, refl))
-    k (q ∙ ap (λ (b : ℕ). line_long (ok (tail_ones f.store.words f.store.head.n i b))) (tail-first p f v free))
+    (tail-told p f v free y i ey ei _ _ (refl, refl)) k (q ∙ ap (λ (b : ℕ). line_long (ok (tail_ones f.store.words f.store.head.n i b))) (tail-first p f v free))
 
 pub column-line : (p : ColumnRange) (f : Full) (v : WellFormed f.store) (free : 0 ≡ refusal_of (inner (ColOnes p) f)) (q j z : ℕ) (eq : q ≡ p.c) (ej : j ≡ home_column f.store q) (ez : z ≡ j) (l : List ℕ)
     → l ≡ list_at f.store.index.starts f.store.index.entries z
     → (k : ℕ) → k ≡ line_long (ok (shown f.store.rows.logicals p.a p.b l)) → k ≡ line_long (reply_of (inner (ColOnes p) f))
 column-line p f v free q j z eq ej ez l el k h =
     list-line f (ColOnes p) (shown f.store.rows.logicals p.a p.b l)
-    (colones-is p f (colones-wide p f v free) (colones-sparse p f v free) v (colones-on p f v free) q j z eq ej ez (colones-exact p f v free q j z eq ej ez) l el _ refl (colones-fits p f v free q j z eq ej ez l el) _ _ (refl, refl)) k h
+    (colones-told p f v free q j z eq ej ez l el _ _ (refl, refl)) k h
 
 -- ---- a well-formed store gives what measuring asks
 module _ (p : RowRange) (f : Full) (v : WellFormed f.store) (free : 0 ≡ refusal_of (inner (Iter p) f)) where
@@ -168,19 +174,16 @@ module _ (p : ColumnRange) (f : Full) (v : WellFormed f.store) (free : 0 ≡ ref
 
   module _ (q j z : ℕ) (eq : q ≡ p.c) (ej : j ≡ home_column f.store q) (ez : z ≡ j) where
     pub column-list : CanList f.store.index.starts f.store.index.entries z
-    column-list = list-in f.store v p.c q j z (colones-sparse p f v free) eq ej ez (colones-on p f v free)
+    column-list = colones-gets p f v free q j z eq ej ez
 
     pub column-measured : (l : List ℕ) → l ≡ list_at f.store.index.starts f.store.index.entries z → (h : ℕ) → h ≡ f.store.head.h
         → CanMeasureColumn l f.store.rows.homes f.store.rows.logicals h
     column-measured l el h eh =
         record {
-          shows = rw eh (list-shows f.store v p.c q j z (colones-sparse p f v free) eq ej ez (colones-on p f v free) l el);
+          shows = rw eh (colones-shows p f v free q j z eq ej ez l el).can;
           few = omega (arith, eh, v.limits.height);
         }
 
--- ---- the line of a number or of its refusal
-pub number_is : (x : Number) (n : ℕ) → x ≡ numbered.Is n → (k : ℕ) → k ≡ line_long (ok (n ∷ [])) → k ≡ line_long (number_says x)
-number_is x n e k q = q ∙ ap (λ (y : Number). line_long (number_says y)) (sym e)
-
-pub number-no : (x : Number) (j : ℕ) → x ≡ numbered.No j → (k : ℕ) → k ≡ line_long (nay j) → k ≡ line_long (number_says x)
-number-no x j e k q = q ∙ ap (λ (y : Number). line_long (number_says y)) (sym e)
+-- ---- a list is shown as it is
+pub same-list : (l : List ℕ) (k : ℕ) → k ≡ line_long (ok (map (λ n. n) l)) → k ≡ line_long (ok l)
+same-list l k e = e ∙ ap (λ m. line_long (ok m)) (map-id l)

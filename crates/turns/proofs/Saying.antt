@@ -2,13 +2,11 @@
 use mathlib.Core.Path.{◌≡◌, refl, sym, ap, ◌∙◌}
 use mathlib.Core.Bool.{true, false}
 use mathlib.Core.List.{List}
-use Prim.Native.Nat.{ℕ, ◌+◌, ◌-◌, ◌*◌, ◌^◌, ◌≤◌, ◌<◌}
-use native.Mathlib.Nat.{mul-le-mul_right}
+use Prim.Native.Nat.{ℕ, ◌+◌, ◌-◌, ◌≤◌, ◌<◌}
 use native.Mathlib.Omega.{arith}
-use lib.Seq.{sets}
 use borrow.Author.Tests.{leb-true}
 use lib.Dec.{leb}
-use lib.ListN.{length, length-append, take, drop, get_or, get_or-eq_default}
+use lib.ListN.{length, length-append, take, drop}
 use Rattle.laws.specs.Parts.{stretch, over}
 use Rattle.laws.specs.Words.{words_for}
 use Rattle.laws.proofs.Parts.{stretch-length, stretch-part, part-is, tabled-length}
@@ -16,57 +14,67 @@ use Rattle.table.specs.declared.Op.{Op}
 use Rattle.table.specs.declared.Op.TheVariants as op
 use Rattle.table.specs.Step.{answer}
 use Rattle.table.specs.Table.{tail_word}
-use Rattle.table.specs.declared.RowTail.{RowTail}
 use Rattle.table.specs.Run.{Reply, ok, nay, reply_of}
 use Rattle.model.specs.Store.{Store, Full, home_row, table_of}
 use Rattle.model.specs.WellFormed.{WellFormed}
 use Rattle.model.specs.Step.{Result, full_after, step, inner, result_of}
+use Rattle.std.proofs.lemmas.List.{map-id}
+use Rattle.std.specs.Prelude.{map, Result as Either, Ok, Err, Some, None}
+use Rattle.store_head.specs.declared.refusal.Refusal.{Refusal}
 use Rattle.store_head.specs.Lent.{full_of}
 use Rattle.store_head.specs.Refused.{refusal_of}
 use Rattle.store_head.proofs.Refuses.{accepted, none_told}
 use Rattle.store_head.proofs.Replies.{values}
 use Rattle.store_head.proofs.QueryPlaces.{words-in}
-use Rattle.lines.specs.Line.{line_of, line_long}
-use Rattle.lines.specs.Wrote.{Wrote}
 use Rattle.lines.specs.declared.Lines.{Lines}
-use Rattle.store_head.specs.declared.Numbers.{Numbers}
+use Rattle.lines.specs.Line.{line_of, line_long}
+use Rattle.lines.specs.Wrote.{HasRoom, Wrote}
+use Rattle.lines.proofs.Writing.{long_ok, long-no}
 use Rattle.operations.specs.declared.Told.{Told}
 use Rattle.operations.specs.declared.Told.TheVariants as told
-use Rattle.operations.specs.Applied.{Form, done, number, sizes, list, words, form, part_at, says, asked_told}
+use Rattle.operations.specs.Applied.{Form, done, number, sizes, list, words, form, part_at, says_told, says, op_told}
 use Rattle.model.proofs.EveryStepIsTheTables.{step-is-inner}
 use Rattle.operations.proofs.Determined.{never-zero}
-use Rattle.turns.specs.Said.{homes_of, said, places_read, words_read, CanPut}
-use Rattle.turns.specs.Turned.{turn_by}
+use Rattle.turns.specs.Said.{said, places_read, words_read, CanPut}
+use Rattle.turns.specs.Turned.{turn_by, turn_told}
 use Rattle.turns.proofs.Measuring.{words-low}
+use Rattle.turns.proofs.Turned.{wrote, stays}
 
--- what is in the operation's form says what is told
-said-is : (t : Told) (g : Form) (at : ℕ) (ws answers : List ℕ) → (says t g at ws answers ≡ nay 0 → ⊥) → said t at ws answers ≡ says t g at ws answers
-said-is (told.No k) g at ws answers n = refl
-said-is told.Done done at ws answers n = refl
-said-is told.Done number at ws answers n = absurd (n refl)
-said-is told.Done sizes at ws answers n = absurd (n refl)
-said-is told.Done list at ws answers n = absurd (n refl)
-said-is told.Done words at ws answers n = absurd (n refl)
-said-is (told.Number x) done at ws answers n = absurd (n refl)
-said-is (told.Number x) number at ws answers n = refl
-said-is (told.Number x) sizes at ws answers n = absurd (n refl)
-said-is (told.Number x) list at ws answers n = absurd (n refl)
-said-is (told.Number x) words at ws answers n = absurd (n refl)
-said-is (told.Sizes p) done at ws answers n = absurd (n refl)
-said-is (told.Sizes p) number at ws answers n = absurd (n refl)
-said-is (told.Sizes p) sizes at ws answers n = refl
-said-is (told.Sizes p) list at ws answers n = absurd (n refl)
-said-is (told.Sizes p) words at ws answers n = absurd (n refl)
-said-is (told.List c) done at ws answers n = absurd (n refl)
-said-is (told.List c) number at ws answers n = absurd (n refl)
-said-is (told.List c) sizes at ws answers n = absurd (n refl)
-said-is (told.List c) list at ws answers n = refl
-said-is (told.List c) words at ws answers n = absurd (n refl)
-said-is (told.Words c) done at ws answers n = absurd (n refl)
-said-is (told.Words c) number at ws answers n = absurd (n refl)
-said-is (told.Words c) sizes at ws answers n = absurd (n refl)
-said-is (told.Words c) list at ws answers n = absurd (n refl)
-said-is (told.Words c) words at ws answers n = refl
+-- the form of what is told
+abbrev form_of : Told → Form
+form_of told.Done = done
+form_of (told.Number x) = number
+form_of (told.Sizes p) = sizes
+form_of (told.List c) = list
+form_of (told.Words c) = words
+
+-- what says more than the number 0 is in the operation's form, and says what is told
+in-form : (t : Told) (g : Form) (at : ℕ) (ws answers : List ℕ) → (says_told t g at ws answers ≡ nay 0 → ⊥) → (said (Ok t) at ws answers ≡ says_told t g at ws answers) × (g ≡ form_of t)
+in-form told.Done done at ws answers n = (refl, refl)
+in-form told.Done number at ws answers n = absurd (n refl)
+in-form told.Done sizes at ws answers n = absurd (n refl)
+in-form told.Done list at ws answers n = absurd (n refl)
+in-form told.Done words at ws answers n = absurd (n refl)
+in-form (told.Number x) done at ws answers n = absurd (n refl)
+in-form (told.Number x) number at ws answers n = (refl, refl)
+in-form (told.Number x) sizes at ws answers n = absurd (n refl)
+in-form (told.Number x) list at ws answers n = absurd (n refl)
+in-form (told.Number x) words at ws answers n = absurd (n refl)
+in-form (told.Sizes p) done at ws answers n = absurd (n refl)
+in-form (told.Sizes p) number at ws answers n = absurd (n refl)
+in-form (told.Sizes p) sizes at ws answers n = (refl, refl)
+in-form (told.Sizes p) list at ws answers n = absurd (n refl)
+in-form (told.Sizes p) words at ws answers n = absurd (n refl)
+in-form (told.List c) done at ws answers n = absurd (n refl)
+in-form (told.List c) number at ws answers n = absurd (n refl)
+in-form (told.List c) sizes at ws answers n = absurd (n refl)
+in-form (told.List c) list at ws answers n = (refl, refl)
+in-form (told.List c) words at ws answers n = absurd (n refl)
+in-form (told.Words c) done at ws answers n = absurd (n refl)
+in-form (told.Words c) number at ws answers n = absurd (n refl)
+in-form (told.Words c) sizes at ws answers n = absurd (n refl)
+in-form (told.Words c) list at ws answers n = absurd (n refl)
+in-form (told.Words c) words at ws answers n = (refl, refl)
 
 -- the forms are apart
 abbrev place : Form → ℕ
@@ -81,16 +89,6 @@ never : (o : Op) (f : Full) → WellFormed f.store → reply_of (inner o f) ≡ 
 never o f v e = never-zero o f (ap reply_of (step-is-inner o f v) ∙ e)
 
 -- ---- what is read is there
-module _ (o : Op) (f : Full) (v : WellFormed f.store) (u : Store) (answers : List ℕ) where
-  -- what an accepted call says and leaves
-  said-answer : (l : List ℕ) → ◌≡◌ {A = Result} (record { reply = ok l; after = full_of u answers }) (result_of f (inner o f))
-      → ◌≡◌ {A = Result} (record { reply = ok l; after = full_of u answers }) (record { reply = ok (answer o (table_of f.store)); after = full_after o f })
-  said-answer l e = e ∙ accepted o f (none_told o f (full_of u answers) l e)
-
-  -- what is not in the operation's form is not said
-  not-said : (A : Type 0) → ◌≡◌ {A = Result} (record { reply = nay 0; after = full_of u answers }) (result_of f (inner o f)) → A
-  not-said A e = absurd (never o f v (sym (ap (λ (r : Result). r.reply) e)))
-
 over-long : (l m a : List ℕ) (c : ℕ) → c ≡ length l → m ≡ over l a → c ≤ length m
 unfolding over
 over-long l m a c e q = rw q (simp length-append (omega (arith, e)))
@@ -136,159 +134,123 @@ words-there (op.Iter p) i f v free ws c e q = absurd (omega (arith, ap place i))
 words-there (op.ColOnes p) i f v free ws c e q = absurd (omega (arith, ap place i))
 words-there op.Size i f v free ws c e q = absurd (omega (arith, ap place i))
 
+-- no line is empty
+some-long : (r : Reply) → 0 < line_long r
+some-long (ok l) = omega (arith, long_ok l)
+some-long (nay k) = omega (arith, long-no k)
+
 module _ (o : Op) (f : Full) (v : WellFormed f.store) (u : Store) (answers : List ℕ) where
-  counted-by : (l m : List ℕ) (c : ℕ) → length l ≡ c → (x y : Full) → ◌≡◌ {A = Result} (record { reply = ok l; after = x }) (record { reply = ok m; after = y }) → c ≡ length m
-  unfolding values
-  counted-by l m c e x y q = sym e ∙ ap (λ (r : Result). length (values r.reply)) q
+  abbrev Call : Either Told Refusal → Type 0
+  Call t = op_told (form o) (part_at o f.store) u t answers ≡ result_of f (inner o f)
 
-  places : (t : Told) (g : Form) → form o ≡ g → asked_told g (part_at o f.store) u t answers ≡ result_of f (inner o f) → places_read t ≤ length answers
-  places told.Done g i e = omega arith
-  places (told.Number x) g i e = omega arith
-  places (told.Sizes p) g i e = omega arith
-  places (told.Words c) g i e = omega arith
-  places (told.No k) g i e = omega arith
-  places (told.List c) done i e = not-said o f v u answers _ e
-  places (told.List c) number i e = not-said o f v u answers _ e
-  places (told.List c) sizes i e = not-said o f v u answers _ e
-  places (told.List c) words i e = not-said o f v u answers _ e
-  places (told.List c) list i e =
-      let q = said-answer o f v u answers (stretch answers 0 c) e in
-      listed-there o i f answers c (counted-by (stretch answers 0 c) (answer o (table_of f.store)) c (stretch-length answers 0 c) (full_of u answers) (full_after o f) q) (ap (λ (r : Result). r.after.answers) q)
+  spoken : (t : Either Told Refusal) → Call t → says t (form o) (part_at o f.store) u.words answers ≡ nay 0 → ⊥
+  spoken t e z = never o f v (sym (ap (λ (r : Result). r.reply) e) ∙ z)
 
-  tail-words : (t : Told) (g : Form) → form o ≡ g → asked_told g (part_at o f.store) u t answers ≡ result_of f (inner o f) → words_read t (part_at o f.store) ≤ length u.words
-  tail-words told.Done g i e = omega arith
-  tail-words (told.Number x) g i e = omega arith
-  tail-words (told.Sizes p) g i e = omega arith
-  tail-words (told.List c) g i e = omega arith
-  tail-words (told.No k) g i e = omega arith
-  tail-words (told.Words c) done i e = not-said o f v u answers _ e
-  tail-words (told.Words c) number i e = not-said o f v u answers _ e
-  tail-words (told.Words c) sizes i e = not-said o f v u answers _ e
-  tail-words (told.Words c) list i e = not-said o f v u answers _ e
-  tail-words (told.Words c) words i e =
-      let q = said-answer o f v u answers (stretch u.words (part_at o f.store) c) e in
-      words-there o i f v (none_told o f (full_of u answers) (stretch u.words (part_at o f.store) c) e) u.words c
-      (counted-by (stretch u.words (part_at o f.store) c) (answer o (table_of f.store)) c (stretch-length u.words (part_at o f.store) c) (full_of u answers) (full_after o f) q)
-      (ap (λ (r : Result). r.after.store.words) q)
+  is-form : (t : Told) → Call (Ok t) → form o ≡ form_of t
+  is-form t e = (in-form t (form o) (part_at o f.store) u.words answers (spoken (Ok t) e)).1
+
+  -- c numbers l that an accepted call says are as many as it answers, and it leaves what the definition leaves
+  module _ (l : List ℕ) (c : ℕ) (ec : length l ≡ c) (e : ◌≡◌ {A = Result} (record { reply = ok l; after = full_of u answers }) (result_of f (inner o f))) where
+    free : 0 ≡ refusal_of (inner o f)
+    free = none_told o f (full_of u answers) l e
+
+    counted-by : c ≡ length (answer o (table_of f.store))
+    unfolding values
+    counted-by = sym ec ∙ ap (λ (r : Result). length (values r.reply)) (e ∙ accepted o f free)
+
+    leaves : full_of u answers ≡ full_after o f
+    leaves = ap (λ (r : Result). r.after) (e ∙ accepted o f free)
+
+  places : (t : Either Told Refusal) → Call t → places_read t ≤ length answers
+  places (Ok told.Done) e = omega arith
+  places (Ok (told.Number x)) e = omega arith
+  places (Ok (told.Sizes p)) e = omega arith
+  places (Ok (told.List c)) e =
+      let i = is-form (told.List c) e in
+      let q = rw i at e in
+      let l = stretch answers 0 c in
+      listed-there o i f answers c (counted-by l c (stretch-length answers 0 c) q) (ap (λ (g : Full). g.answers) (leaves l c (stretch-length answers 0 c) q))
+  places (Ok (told.Words c)) e = omega arith
+  places (Err k) e = omega arith
+
+  tail-words : (t : Either Told Refusal) → Call t → words_read t (part_at o f.store) ≤ length u.words
+  tail-words (Ok told.Done) e = omega arith
+  tail-words (Ok (told.Number x)) e = omega arith
+  tail-words (Ok (told.Sizes p)) e = omega arith
+  tail-words (Ok (told.List c)) e = omega arith
+  tail-words (Ok (told.Words c)) e =
+      let i = is-form (told.Words c) e in
+      let q = rw i at e in
+      let l = stretch u.words (part_at o f.store) c in
+      let long = stretch-length u.words (part_at o f.store) c in
+      words-there o i f v (free l c long q) u.words c (counted-by l c long q) (ap (λ (g : Full). g.store.words) (leaves l c long q))
+  tail-words (Err k) e = omega arith
 
   -- ---- one call's line
-  module _ (t : Told) (e : asked_told (form o) (part_at o f.store) u t answers ≡ result_of f (inner o f)) where
-    pub reply-said : said t (part_at o f.store) u.words answers ≡ reply_of (inner o f)
-    reply-said =
-        said-is t (form o) (part_at o f.store) u.words answers (λ z. never o f v (sym (ap (λ (r : Result). r.reply) e) ∙ z)) ∙ ap (λ (r : Result). r.reply) e
+  said-is : (t : Either Told Refusal) → Call t → said t (part_at o f.store) u.words answers ≡ says t (form o) (part_at o f.store) u.words answers
+  said-is (Ok t) e = (in-form t (form o) (part_at o f.store) u.words answers (spoken (Ok t) e)).0
+  said-is (Err k) e = refl
 
-    pub can-put : (lines : List ℕ) (used at : ℕ) → at ≡ part_at o f.store → used ≤ length lines → leb (line_long (reply_of (inner o f))) (length lines - used) ≡ true
-        → CanPut t at u.words answers lines used
-    can-put lines used at ea low fits =
-        record {
-          places = places t (form o) refl e;
-          words = rw ea (tail-words t (form o) refl e);
-          room = rw (ea, reply-said) (omega (arith, leb-true (line_long (reply_of (inner o f))) (length lines - used) fits));
-        }
+  module _ (t : Either Told Refusal) (e : op_told (form o) (part_at o f.store) u t answers ≡ result_of f (inner o f)) where
+    reply-said : said t (part_at o f.store) u.words answers ≡ reply_of (inner o f)
+    reply-said = said-is t e ∙ ap (λ (r : Result). r.reply) e
 
-    -- it fits: it is written, and the work is done
-    pub gone : (next at used from end : ℕ) (lines left : List ℕ) → from ≡ part_at o f.store → leb (line_long (reply_of (inner o f))) (length lines - used) ≡ true
-        → end ≡ used + line_long (said t from u.words answers) → left ≡ sets lines used (line_of (said t from u.words answers))
-        → record { went = true; at = next; used = end; after = full_of u answers; lines = left } ≡ turn_by (step o f) next at used lines f
-    gone next at used from end lines left ef fits ee em =
-        rw (step-is-inner o f v, fits)
-        (λ i. record { went = true; at = next; used = place_after i; after = (e i).after; lines = written i })
-      where
-        reply : said t from u.words answers ≡ reply_of (inner o f)
-        reply = ap (λ (k : ℕ). said t k u.words answers) ef ∙ reply-said
+    module _ (a : Lines) (at : ℕ) (ea : at ≡ part_at o f.store) (fits : leb (line_long (reply_of (inner o f))) (length a.bytes.now - a.used) ≡ true) where
+      reply-is : said t at u.words answers ≡ reply_of (inner o f)
+      reply-is = ap (λ (k : ℕ). said t k u.words answers) ea ∙ reply-said
 
-        place_after : end ≡ used + line_long (reply_of (inner o f))
-        place_after = ee ∙ ap (λ (r : Reply). used + line_long r) reply
+      pub can-put : CanPut t at u.words answers a
+      can-put =
+          record {
+            places = places t e;
+            words = rw ea (tail-words t e);
+            room = rw reply-is (omega (arith, leb-true (line_long (reply_of (inner o f))) (length a.bytes.now - a.used) fits, some-long (reply_of (inner o f))));
+          }
 
-        written : left ≡ sets lines used (line_of (reply_of (inner o f)))
-        written = em ∙ ap (λ (r : Reply). sets lines used (line_of r)) reply
+      -- it fits: it is written, and the work is done
+      pub gone : (next : ℕ) (b : Lines) → Wrote a b (line_of (said t at u.words answers)) → turn_told (Some next) (full_of u answers) b ≡ turn_by (step o f) next a.used a.bytes.now f
+      gone next b w =
+          rw (step-is-inner o f v)
+          (wrote (inner o f) next f a fits b (rw (sym reply-is) w) (full_of u answers) (ap (λ (r : Result). r.after) e))
 
 -- the line does not fit: nothing is done
-pub stopped : (o : Op) (f : Full) → WellFormed f.store → (next at used : ℕ) (lines : List ℕ) → leb (line_long (reply_of (inner o f))) (length lines - used) ≡ false
-    → record { went = false; at = at; used = used; after = f; lines = lines } ≡ turn_by (step o f) next at used lines f
-stopped o f v next at used lines short = rw (step-is-inner o f v, short)
-
--- ---- where the part of WORDS begins
-part_same : (o : Op) (s u : Store) → s.rows.homes ≡ u.rows.homes → s.head.n ≡ u.head.n → part_at o s ≡ part_at o u
-part_same (op.Make p) s u e f = refl
-part_same (op.Set p) s u e f = refl
-part_same (op.SwapR p) s u e f = refl
-part_same (op.SwapC p) s u e f = refl
-part_same (op.Add p) s u e f = refl
-part_same op.On s u e f = refl
-part_same op.Off s u e f = refl
-part_same (op.Freeze p) s u e f = refl
-part_same (op.Resize p) s u e f = refl
-part_same (op.Get p) s u e f = refl
-part_same (op.Count p) s u e f = refl
-part_same (op.Words p) s u e f = rw (e, f)
-part_same (op.TailOnes p) s u e f = refl
-part_same (op.Iter p) s u e f = refl
-part_same (op.ColOnes p) s u e f = refl
-part_same op.Size s u e f = refl
-
--- the head and the row map are enough
-pub part-is-there : (o : Op) (s u : Store) (k : ℕ) → s.rows.homes ≡ u.rows.homes → s.head.n ≡ u.head.n → k ≡ part_at o s → k ≡ part_at o u
-part-is-there o s u k e f q = q ∙ part_same o s u e f
-
-pub no_part : (o : Op) (s : Store) → ((p : RowTail) → o ≡ op.Words p → ⊥) → 0 ≡ part_at o s
-no_part (op.Make p) s h = refl
-no_part (op.Set p) s h = refl
-no_part (op.SwapR p) s h = refl
-no_part (op.SwapC p) s h = refl
-no_part (op.Add p) s h = refl
-no_part op.On s h = refl
-no_part op.Off s h = refl
-no_part (op.Freeze p) s h = refl
-no_part (op.Resize p) s h = refl
-no_part (op.Get p) s h = refl
-no_part (op.Count p) s h = refl
-no_part (op.Words p) s h = absurd (h p refl)
-no_part (op.TailOnes p) s h = refl
-no_part (op.Iter p) s h = refl
-no_part (op.ColOnes p) s h = refl
-no_part op.Size s h = refl
-
--- a row past the map has the home 0
-pub part-past : (o : Op) (p : RowTail) → o ≡ op.Words p → (d : Numbers) (homes : List ℕ) (r : ℕ) → r ≡ p.r → length homes ≤ r → 0 ≡ part_at o (homes_of d homes)
-part-past o p e d homes r er h = rw (e, get_or-eq_default homes 0 {n = p.r} (omega arith)) (omega arith)
-
-pub part_of : (o : Op) (p : RowTail) → o ≡ op.Words p → (d : Numbers) (homes : List ℕ) (r y k : ℕ) → r ≡ p.r → y ≡ get_or homes r 0 → k ≡ words_for d.n → y * k ≡ part_at o (homes_of d homes)
-part_of o p e d homes r y k er ey ek = rw (e, ey, er, ek)
-
--- the product fits 64 bits
-pub part_small : (y x n k : ℕ) → y ≡ x → x < 2 ^ 32 → n ≤ 65535 → k ≡ words_for n → y * k < 2 ^ 64
-part_small y x n k ey hx hn ek =
-    let low : k ≤ 1024 = omega (arith, ek) in
-    let less : y ≤ 4294967296 = omega (arith, ey, hx) in
-    omega (arith, mul-le-mul_right k less)
+pub stopped : (o : Op) (f : Full) → WellFormed f.store → (next : ℕ) (a : Lines) → leb (line_long (reply_of (inner o f))) (length a.bytes.now - a.used) ≡ false
+    → turn_told None f a ≡ turn_by (step o f) next a.used a.bytes.now f
+stopped o f v next a short = rw (step-is-inner o f v) (stays (inner o f) next f a short)
 
 -- ---- what is written is what is told
-list-part : (l : List ℕ) (c : ℕ) → c ≤ length l → take c l ≡ stretch l 0 c
-list-part l c h = ap (λ k. take k l) more ∙ part-is l 0 c ∙ sym (stretch-part l 0 c (omega (arith, h)))
+list-shown : (l : List ℕ) (c : ℕ) → c ≤ length l → map (λ n. n) (take c l) ≡ stretch l 0 c
+list-shown l c h = map-id (take c l) ∙ ap (λ k. take k (drop 0 l)) more ∙ part-is l 0 c ∙ sym (stretch-part l 0 c (omega arith))
   where
     more : c ≡ 0 + c - 0
     more = omega arith
 
-pub said-as : (t u : Told) → t ≡ u → (at : ℕ) (ws answers : List ℕ) → said t at ws answers ≡ said u at ws answers
-said-as t u e at ws answers = ap (λ (x : Told). said x at ws answers) e
+words-shown : (l : List ℕ) (at c : ℕ) → at + c ≤ length l → map (λ n. n) (take (at + c - at) (drop at l)) ≡ stretch l at c
+words-shown l at c h = map-id (take (at + c - at) (drop at l)) ∙ part-is l at c ∙ sym (stretch-part l at c h)
 
-module _ (t : Told) (at : ℕ) (ws answers lines : List ℕ) (used : ℕ) where
-  module _ (p : CanPut t at ws answers lines used) where
-    pub fits-as : (r : Reply) → said t at ws answers ≡ r → used + line_long r ≤ length lines
-    fits-as r e = rw (sym e) p.room
+module _ (t : Either Told Refusal) (c at : ℕ) (ws answers : List ℕ) (a : Lines) (p : CanPut t at ws answers a) where
+  module _ (x : Told) (ex : t ≡ Ok x) (el : x ≡ told.List c) where
+    is-list : t ≡ Ok (told.List c)
+    is-list = ex ∙ ap Ok el
 
-    pub list-places : (c : ℕ) → t ≡ told.List c → c ≤ length answers
-    list-places c e = rw e at p.places
+    listed : map (λ n. n) (take c answers) ≡ stretch answers 0 c
+    listed = list-shown answers c (rw is-list at p.places)
 
-    pub words-places : (c : ℕ) → t ≡ told.Words c → at + c ≤ length ws
-    words-places c e = rw e at p.words
+    pub list-room : HasRoom a (line_of (ok (map (λ n. n) (take c answers))))
+    list-room = rw listed (rw is-list at p.room)
 
-    pub list-said : (c : ℕ) → t ≡ told.List c → said t at ws answers ≡ ok (take c answers)
-    list-said c e = rw e (ap ok (sym (list-part answers c (list-places c e))))
+    pub list-wrote : (b : Lines) → Wrote a b (line_of (ok (map (λ n. n) (take c answers)))) → Wrote a b (line_of (said t at ws answers))
+    list-wrote b w = rw (is-list, sym listed) w
 
-    pub words-said : (c : ℕ) → t ≡ told.Words c → said t at ws answers ≡ ok (take (at + c - at) (drop at ws))
-    words-said c e = rw e (ap ok (sym (part-is ws at c ∙ sym (stretch-part ws at c (words-places c e)))))
+  module _ (x : Told) (ex : t ≡ Ok x) (el : x ≡ told.Words c) where
+    is-words : t ≡ Ok (told.Words c)
+    is-words = ex ∙ ap Ok el
 
-pub told-put : (t : Told) (at : ℕ) (ws answers : List ℕ) {r : Reply} → said t at ws answers ≡ r → {a b : Lines} → Wrote a b (line_of r) → Wrote a b (line_of (said t at ws answers))
-told-put t at ws answers e w = rw e w
+    worded : map (λ n. n) (take (at + c - at) (drop at ws)) ≡ stretch ws at c
+    worded = words-shown ws at c (rw is-words at p.words)
+
+    pub words-room : HasRoom a (line_of (ok (map (λ n. n) (take (at + c - at) (drop at ws)))))
+    words-room = rw worded (rw is-words at p.room)
+
+    pub words-wrote : (b : Lines) → Wrote a b (line_of (ok (map (λ n. n) (take (at + c - at) (drop at ws))))) → Wrote a b (line_of (said t at ws answers))
+    words-wrote b w = rw (is-words, sym worded) w

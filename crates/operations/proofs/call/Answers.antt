@@ -2,11 +2,11 @@
 use Rattle.operations.proofs.Checks.{stopped, go-ok, gone}
 use Rattle.operations.proofs.call.Goals as goal
 
-pub returns-then-not-may_go : goal.returns-then-not-may_go
-returns-then-not-may_go c = stopped _ _ _ c.may_go.ensures c.if-not-may_go.true _
+pub returns-in_err-guard-clause-told : goal.returns-in_err-guard-clause-told
+returns-in_err-guard-clause-told c = stopped _ _ _ _ _ _ _ c.from_residual.ensures.1 c.in_err-guard.ensures
 
 pub apply-requires : goal.apply-requires
-apply-requires c = go-ok c.args.op _ _ c.may_go.ensures c.if-not-may_go.false
+apply-requires c = go-ok c.args.op _ c.in_ok-guard.ensures
 
-pub returns : goal.returns
-returns c = gone _ _ _ c.may_go.ensures c.if-not-may_go.false _ _ c.apply.ensures
+pub returns-clause-told : goal.returns-clause-told
+returns-clause-told c = gone c.args.op _ c.in_ok-guard.ensures _ _ c.apply.ensures.told

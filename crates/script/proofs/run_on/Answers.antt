@@ -1,20 +1,20 @@
 -- `script::run_on` meets its contract. Assumes nothing.
-use Rattle.script.proofs.Turns.{started, further, runs_on, runs-out, bounds}
-use mathlib.Core.Path.{refl, ◌∙◌}
 use native.Mathlib.Omega.{arith}
+use Rattle.script.proofs.Turns.{started, further, runs_on, runs-out}
 use Rattle.script.proofs.run_on.Goals as goal
 
-pub loop-h-init : goal.loop-h-init
-loop-h-init c = (started _ _ _ c.requires, (refl, (refl, (refl, (refl, (refl, (refl, (refl, (refl, (refl, (refl, (refl, refl))))))))))))
+pub loop-next-init : goal.loop-next-init
+loop-next-init c = (started _ _ _ _ c.requires, search)
 
-pub turn_at-t-requires : goal.turn_at-t-requires
-turn_at-t-requires c = record { well_formed = c.loop-h.invariant.0.ok; used_in_bounds = c.loop-h.invariant.0.within }
+pub turn_at-requires : goal.turn_at-requires
+turn_at-requires c = c.loop-next.invariant.0.ok
 
-pub returns-then-not-went : goal.returns-then-not-went
-returns-then-not-went c = record { lines_after = runs-out _ _ _ _ _ _ _ c.loop-h.invariant.0 _ c.turn_at-t.ensures c.if-not-went.true; done_in_bounds = bounds _ _ _ _ _ _ _ c.loop-h.invariant.0 _ c.turn_at-t.ensures }
+pub loop-next-smaller : goal.loop-next-smaller
+loop-next-smaller c = let w = further _ _ _ _ _ _ _ _ c.loop-next.invariant.0 _ c.turn_at.ensures.told _ c.in-Some.is in omega (arith, w.0, w.1)
 
-pub loop-h-smaller : goal.loop-h-smaller
-loop-h-smaller c = omega (arith, further _ _ _ _ _ _ _ c.loop-h.invariant.0 _ c.turn_at-t.ensures c.if-not-went.false, (bounds _ _ _ _ _ _ _ c.loop-h.invariant.0 _ c.turn_at-t.ensures).0)
+pub loop-next-preserved : goal.loop-next-preserved
+loop-next-preserved c =
+    (runs_on _ _ _ _ _ _ _ _ c.loop-next.invariant.0 _ c.turn_at.ensures.told _ c.in-Some.is, search)
 
-pub loop-h-preserved : goal.loop-h-preserved
-loop-h-preserved c = (runs_on _ _ _ _ _ _ _ c.loop-h.invariant.0 _ c.turn_at-t.ensures c.if-not-went.false, (c.slots-1.given ∙ c.loop-h.invariant.1.0, (c.counts-1.given ∙ c.loop-h.invariant.1.1.0, (c.row_homes-1.given ∙ c.loop-h.invariant.1.1.1.0, (c.row_logicals-1.given ∙ c.loop-h.invariant.1.1.1.1.0, (c.column_homes-1.given ∙ c.loop-h.invariant.1.1.1.1.1.0, (c.column_logicals-1.given ∙ c.loop-h.invariant.1.1.1.1.1.1.0, (c.marks-1.given ∙ c.loop-h.invariant.1.1.1.1.1.1.1.0, (c.starts-1.given ∙ c.loop-h.invariant.1.1.1.1.1.1.1.1.0, (c.entries-1.given ∙ c.loop-h.invariant.1.1.1.1.1.1.1.1.1.0, (c.words-1.given ∙ c.loop-h.invariant.1.1.1.1.1.1.1.1.1.1.0, (c.answers-1.given ∙ c.loop-h.invariant.1.1.1.1.1.1.1.1.1.1.1.0, c.lines-1.given ∙ c.loop-h.invariant.1.1.1.1.1.1.1.1.1.1.1.1))))))))))))
+pub returns-clause-told : goal.returns-clause-told
+returns-clause-told c = runs-out _ _ _ _ _ _ _ _ c.loop-next.invariant.0 _ c.turn_at.ensures.told c.in_default.is

@@ -18,7 +18,7 @@ pub returns-then-start-ne0 : goal.returns-then-start-ne0
 returns-then-start-ne0 c = tail-start _ c.requires _ c.if-head-d.false c.if-head-s.false _ c.aside.ensures c.if-aside.false c.if-d-s.false c.if-start-ne0.true
 
 pub refuse_sum-requires : goal.refuse_sum-requires
-refuse_sum-requires c = can-sum _ c.requires _ _ c.if-head-d.false c.if-head-s.false c.if-d-s.false _ _ c.home-y.ensures c.home-x.ensures
+refuse_sum-requires c = can-sum _ c.requires _ _ c.if-head-d.false c.if-head-s.false c.if-d-s.false _ _ c.home_row-y.ensures c.home_row-x.ensures
 
 pub returns : goal.returns
-returns c = sum-start _ c.requires _ c.if-head-d.false c.if-head-s.false _ c.aside.ensures c.if-aside.false c.if-d-s.false c.if-start-ne0.false _ _ _ c.home-y.ensures c.home-x.ensures c.refuse_sum.ensures
+returns c = sum-start _ c.requires _ c.if-head-d.false c.if-head-s.false _ c.aside.ensures c.if-aside.false c.if-d-s.false c.if-start-ne0.false _ _ _ c.home_row-y.ensures c.home_row-x.ensures c.refuse_sum.ensures

@@ -9,8 +9,8 @@ returns-then-not_one c = refuses-one _ _ _ _ _ _ _ c.not_one.ensures c.if-not_on
 pub sum_fits-requires : goal.sum_fits-requires
 sum_fits-requires c = can-add _ _ _ _ _ c.requires _ _ refl refl
 
-pub returns-then-sum_fits : goal.returns-then-sum_fits
-returns-then-sum_fits c = sum_fits _ _ _ _ _ c.requires _ _ refl refl _ _ c.not_one.ensures c.if-not_one.false _ c.sum_fits.ensures c.if-sum_fits.true
-
 pub returns : goal.returns
-returns c = sum-full _ _ _ _ _ c.requires _ _ refl refl _ _ c.not_one.ensures c.if-not_one.false _ c.sum_fits.ensures c.if-sum_fits.false
+returns c = sum_fits _ _ _ _ _ c.requires _ _ refl refl _ _ c.not_one.ensures c.if-not_one.false _ c.sum_fits.ensures c.if-not-sum_fits.false
+
+pub returns-then-not-sum_fits : goal.returns-then-not-sum_fits
+returns-then-not-sum_fits c = sum-full _ _ _ _ _ c.requires _ _ refl refl _ _ c.not_one.ensures c.if-not_one.false _ c.sum_fits.ensures c.if-not-sum_fits.true

@@ -1,8 +1,8 @@
 -- `cells::set::refuse_set` meets its contract. Assumes nothing.
-use mathlib.Core.Path.{refl, ◌∙◌}
+use mathlib.Core.Path.{refl}
 use Rattle.table.specs.declared.SetCell.{SetCell}
 use Rattle.model.specs.Store.{Store}
-use Rattle.store_head.specs.Lent.{store_of}
+use Rattle.store_head.specs.Lent.{seen}
 use Rattle.cells.specs.Cells.{place}
 use Rattle.store_head.proofs.Refuses.{number_of, none_of}
 use Rattle.cells.proofs.Sets.{set-row, set-column, set-phase, set-tail, column-in, row_kept, set_full, set-sparse}
@@ -15,8 +15,8 @@ use Rattle.cells.proofs.set.refuse_set.Goals as goal
 abbrev asked : Start → SetCell
 asked c = place c.args.r c.args.c c.args.v
 
-abbrev lent : Start → Store
-lent c = store_of c.args.head c.args.slots.now c.args.counts.now c.args.row_homes.now c.args.row_logicals.now c.args.column_homes.now c.args.column_logicals.now c.args.marks.now c.args.starts.now c.args.entries.now c.args.words.now
+abbrev entry : Start → Store
+entry c = seen c.args.store.now
 
 pub returns-then-head-r : goal.returns-then-head-r
 returns-then-head-r c = number_of _ _ _ (set-row _ _ c.if-head-r.true)
@@ -31,13 +31,13 @@ pub returns-then-head : goal.returns-then-head
 returns-then-head c = number_of _ _ _ (set-phase _ _ c.if-head-r.false c.if-head-c-2.false c.if-head.true)
 
 pub home_column-z-requires : goal.home_column-z-requires
-home_column-z-requires c = column-in (lent (goal.at.home_column-z-requires c).Start) (asked (goal.at.home_column-z-requires c).Start) c.if-head-r.false c.requires c.if-head-c-2.false _ c.column.ensures
+home_column-z-requires c = column-in (entry (goal.at.home_column-z-requires c).Start) (asked (goal.at.home_column-z-requires c).Start) c.if-head-r.false c.requires c.if-head-c-2.false _ c.column.ensures
 
 pub has_room-requires : goal.has_room-requires
-has_room-requires c = row_kept (lent (goal.at.has_room-requires c).Start) (asked (goal.at.has_room-requires c).Start) c.if-head-r.false c.requires _ (c.row_place-y.ensures ∙ c.home_row.ensures)
+has_room-requires c = row_kept (entry (goal.at.has_room-requires c).Start) (asked (goal.at.has_room-requires c).Start) c.if-head-r.false c.requires _ c.home_row-y.ensures
 
 pub returns-then-not-has_room : goal.returns-then-not-has_room
-returns-then-not-has_room c = number_of _ _ _ (set_full _ _ c.if-head-r.false c.requires c.if-head-c-2.false _ _ _ (c.row_place-y.ensures ∙ c.home_row.ensures) c.column.ensures c.home_column-z.ensures c.if-head.false _ c.has_room.ensures (ap not c.if-not-has_room.true))
+returns-then-not-has_room c = number_of _ _ _ (set_full _ _ c.if-head-r.false c.requires c.if-head-c-2.false _ _ _ c.home_row-y.ensures c.column.ensures c.home_column-z.ensures c.if-head.false _ c.has_room.ensures (ap not c.if-not-has_room.true))
 
 pub returns : goal.returns
-returns c = none_of _ _ _ (set-sparse _ _ c.if-head-r.false c.requires c.if-head-c-2.false _ _ _ (c.row_place-y.ensures ∙ c.home_row.ensures) c.column.ensures c.home_column-z.ensures c.if-head.false _ c.has_room.ensures (ap not c.if-not-has_room.false) _ _ (refl, refl))
+returns c = none_of _ _ _ (set-sparse _ _ c.if-head-r.false c.requires c.if-head-c-2.false _ _ _ c.home_row-y.ensures c.column.ensures c.home_column-z.ensures c.if-head.false _ c.has_room.ensures (ap not c.if-not-has_room.false) _ _ (refl, refl))

@@ -22,4 +22,4 @@ pub returns-then-p-gt1 : goal.returns-then-p-gt1
 returns-then-p-gt1 c = number-broken c.args.p (asked (goal.at.returns-then-p-gt1 c).Start) (lent (goal.at.returns-then-p-gt1 c).Start (numbers_of c.args.p)) refl c.if-p-gt1.true
 
 pub returns : goal.returns
-returns c = number-crossed c.args.p (asked (goal.at.returns c).Start) (lent (goal.at.returns c).Start) c.head.result.0 c.head.ensures (whole-head c.args.p (asked (goal.at.returns c).Start) (lent (goal.at.returns c).Start (numbers_of c.args.p)) c.if-p-gt1.false) c.count_ones-x.result c.number.result c.number.ensures c.count_ones-x.ensures
+returns c = number-crossed c.args.p (asked (goal.at.returns c).Start) (lent (goal.at.returns c).Start) c.head.result c.head.ensures (whole-head c.args.p (asked (goal.at.returns c).Start) (lent (goal.at.returns c).Start (numbers_of c.args.p)) c.if-p-gt1.false) c.count_ones.result c.number.result c.number.ensures c.count_ones.ensures

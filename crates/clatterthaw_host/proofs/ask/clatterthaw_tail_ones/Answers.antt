@@ -21,4 +21,4 @@ pub returns-then-p-gt1 : goal.returns-then-p-gt1
 returns-then-p-gt1 c = list-broken c.args.p (asked (goal.at.returns-then-p-gt1 c).Start) (lent (goal.at.returns-then-p-gt1 c).Start (numbers_of c.args.p)) refl c.if-p-gt1.true
 
 pub returns : goal.returns
-returns c = list-crossed c.args.p (asked (goal.at.returns c).Start) (lent (goal.at.returns c).Start) c.head.result.0 c.head.ensures (whole-head c.args.p (asked (goal.at.returns c).Start) (lent (goal.at.returns c).Start (numbers_of c.args.p)) c.if-p-gt1.false) _ c.query_non_zero_columns-x.result c.list.result _ c.list.ensures c.query_non_zero_columns-x.ensures
+returns c = list-crossed c.args.p (asked (goal.at.returns c).Start) (lent (goal.at.returns c).Start) c.head.result c.head.ensures (whole-head c.args.p (asked (goal.at.returns c).Start) (lent (goal.at.returns c).Start (numbers_of c.args.p)) c.if-p-gt1.false) _ c.query_non_zero_columns.result c.list.result _ c.list.ensures c.query_non_zero_columns.ensures

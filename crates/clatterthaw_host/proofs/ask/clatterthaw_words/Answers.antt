@@ -21,5 +21,8 @@ lent c d = full_of (store_of d c.args.slots.now c.args.counts.now c.args.row_hom
 pub returns-then-p-gt1 : goal.returns-then-p-gt1
 returns-then-p-gt1 c = words-broken c.args.p (asked (goal.at.returns-then-p-gt1 c).Start) (lent (goal.at.returns-then-p-gt1 c).Start (numbers_of c.args.p)) refl c.if-p-gt1.true _
 
+pub words-requires : goal.words-requires
+words-requires c = few _ _ _ c.get_sub_row.result c.get_sub_row.ensures.place
+
 pub returns : goal.returns
-returns c = rw c.part_start-start.ensures at (words-crossed c.args.p (asked (goal.at.returns c).Start) (lent (goal.at.returns c).Start) c.head.result.0 c.head.ensures (whole-head c.args.p (asked (goal.at.returns c).Start) (lent (goal.at.returns c).Start (numbers_of c.args.p)) c.if-p-gt1.false) _ _ c.part_start-start.result c.get_sub_row-x.result c.words.result c.words.ensures c.get_sub_row-x.ensures)
+returns c = rw c.part_start-start.ensures at (words-crossed c.args.p (asked (goal.at.returns c).Start) (lent (goal.at.returns c).Start) c.head.result c.head.ensures (whole-head c.args.p (asked (goal.at.returns c).Start) (lent (goal.at.returns c).Start (numbers_of c.args.p)) c.if-p-gt1.false) c.part_start-start.result c.get_sub_row.result c.words.result c.words.ensures c.get_sub_row.ensures.told)

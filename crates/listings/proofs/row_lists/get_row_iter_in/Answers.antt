@@ -1,25 +1,20 @@
 -- `listings::row_lists::get_row_iter_in` meets its contract. Assumes nothing.
 use native.Mathlib.Omega.{arith}
-use mathlib.Core.Path.{refl, sym, ◌∙◌}
-use Rattle.store_head.proofs.Refuses.{refuses}
-use Rattle.store_head.proofs.QueryPlaces.{in-slots, walk-low}
-use Rattle.listings.proofs.QueryLists.{iter-low, iter-sparse, iter-fits, can-walk, iter-is}
+use Rattle.store_head.proofs.QueryPlaces.{in-slots}
+use Rattle.listings.proofs.QueryLists.{iter-low, iter-walks, iter-few, iter-told}
 use Rattle.listings.proofs.row_lists.get_row_iter_in.Goals as goal
 
-pub returns-then-no-ne0 : goal.returns-then-no-ne0
-returns-then-no-ne0 c = refuses _ _ _ c.refuse_iter-no.ensures c.if-no-ne0.true
-
 pub home_row-y-requires : goal.home_row-y-requires
-home_row-y-requires c = omega (arith, (iter-low _ _ c.requires (sym c.if-no-ne0.false ∙ c.refuse_iter-no.ensures)), c.requires.maps.rows.f-long)
+home_row-y-requires c = omega (arith, iter-low _ _ c.requires c.in_ok-refuse_iter.ensures, c.requires.maps.rows.f-long)
 
 pub row-row-requires : goal.row-row-requires
-row-row-requires c = in-slots _ c.requires _ _ (iter-low _ _ c.requires (sym c.if-no-ne0.false ∙ c.refuse_iter-no.ensures)) c.home_row-y.ensures
+row-row-requires c = in-slots _ c.requires _ _ (iter-low _ _ c.requires c.in_ok-refuse_iter.ensures) c.home_row-y.ensures
 
 pub walk-n-requires : goal.walk-n-requires
-walk-n-requires c = can-walk _ _ (iter-low _ _ c.requires (sym c.if-no-ne0.false ∙ c.refuse_iter-no.ensures)) c.requires (iter-sparse _ _ c.requires (sym c.if-no-ne0.false ∙ c.refuse_iter-no.ensures)) _ _ c.home_row-y.ensures c.row-row.ensures _ refl (iter-fits _ _ c.requires (sym c.if-no-ne0.false ∙ c.refuse_iter-no.ensures) _ _ c.home_row-y.ensures c.row-row.ensures)
+walk-n-requires c = iter-walks _ _ c.requires c.in_ok-refuse_iter.ensures _ _ c.home_row-y.ensures c.row-row.ensures
 
-pub overflow_cast-listed : goal.overflow_cast-listed
-overflow_cast-listed c = omega (arith, walk-low _ c.requires _ _ (iter-low _ _ c.requires (sym c.if-no-ne0.false ∙ c.refuse_iter-no.ensures)) c.home_row-y.ensures _ _ _ _ c.row-row.ensures c.walk-n.ensures.0)
+pub overflow_cast-result : goal.overflow_cast-result
+overflow_cast-result c = omega (arith, iter-few _ _ c.requires c.in_ok-refuse_iter.ensures _ _ c.home_row-y.ensures c.row-row.ensures _ c.walk-n.ensures.0)
 
 pub returns : goal.returns
-returns c = iter-is _ _ (iter-low _ _ c.requires (sym c.if-no-ne0.false ∙ c.refuse_iter-no.ensures)) c.requires (iter-sparse _ _ c.requires (sym c.if-no-ne0.false ∙ c.refuse_iter-no.ensures)) _ _ c.home_row-y.ensures c.row-row.ensures _ refl (iter-fits _ _ c.requires (sym c.if-no-ne0.false ∙ c.refuse_iter-no.ensures) _ _ c.home_row-y.ensures c.row-row.ensures) _ _ c.walk-n.ensures
+returns c = iter-told _ _ c.requires c.in_ok-refuse_iter.ensures _ _ c.home_row-y.ensures c.row-row.ensures _ _ c.walk-n.ensures

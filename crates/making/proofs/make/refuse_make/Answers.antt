@@ -10,4 +10,4 @@ pub returns-then-too_short : goal.returns-then-too_short
 returns-then-too_short c = make-number _ _ _ (make-short _ _ _ _ c.outside_limits.ensures c.if-outside_limits.false c.too_short.ensures c.if-too_short.true)
 
 pub returns : goal.returns
-returns c = make-none _ _ _ (make-done _ _ _ _ c.outside_limits.ensures c.if-outside_limits.false c.too_short.ensures c.if-too_short.false _ _ _ _ _ _ _ _ _ _ (refl, (refl, refl)) (refl, (refl, refl)) refl refl refl refl)
+returns c = make-none _ _ _ (make-done _ _ _ _ c.outside_limits.ensures c.if-outside_limits.false c.too_short.ensures c.if-too_short.false _ _ _ _ _ _ _ _ _ _ refl refl refl refl refl refl refl refl refl refl)

@@ -11,8 +11,8 @@ returns-then-c-head c = not_last _ c.requires _ c.if-head-c.false c.if-c-head.tr
 pub returns-then-not-head : goal.returns-then-not-head
 returns-then-not-head c = index-off _ c.requires _ c.if-head-c.false c.if-c-head.false c.if-not-head.true
 
-pub returns-then-words-wanted : goal.returns-then-words-wanted
-returns-then-words-wanted c = few_words _ c.requires _ c.if-head-c.false c.if-c-head.false c.if-not-head.false _ c.words_wanted-wanted.ensures c.if-words-wanted.true
+pub returns-then-store-wanted : goal.returns-then-store-wanted
+returns-then-store-wanted c = few_words _ c.requires _ c.if-head-c.false c.if-c-head.false c.if-not-head.false _ c.words_wanted-wanted.ensures c.if-store-wanted.true
 
 pub returns : goal.returns
-returns c = free _ c.requires _ c.if-head-c.false c.if-c-head.false c.if-not-head.false _ c.words_wanted-wanted.ensures c.if-words-wanted.false
+returns c = free _ c.requires _ c.if-head-c.false c.if-c-head.false c.if-not-head.false _ c.words_wanted-wanted.ensures c.if-store-wanted.false

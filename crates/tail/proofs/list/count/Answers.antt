@@ -13,8 +13,8 @@ more : (c : In-loop-w)
     Counting a.ws.now a.n a.y (l.sum + ones (get_or r l.w-index 0 / 2 ^ l.shift)) 0 (l.w-index + 1)
 more c =
     let a = c.args in let l = c.loop-w in let s = c.words_for in let r = c.row_words-w-items in
-    let long = row-long a.ws.now r.result.now a.n a.y s.result c.requires.row s.ensures r.ensures in
-    let word = row-word a.ws.now r.result.now a.n a.y s.result c.requires.row s.ensures r.ensures l.w-index c.loop-w-test.true in
+    let long = row-long a.ws.now r.result.now a.n a.y s.result c.requires.row s.ensures r.ensures.part in
+    let word = row-word a.ws.now r.result.now a.n a.y s.result c.requires.row s.ensures r.ensures.part l.w-index c.loop-w-test.true in
     rw (← word) (counting_more a.ws.now a.n a.y s.result l.sum l.shift l.w-index l.invariant s.ensures (omega arith) (c.type_inv.ws _).fits)
 
 pub loop-w-init : goal.loop-w-init
@@ -25,7 +25,7 @@ loop-w-preserved c = more (goal.at.loop-w-preserved c).In-loop-w
 
 pub returns : goal.returns
 returns c =
-    let long = row-long _ _ _ _ _ c.requires.row c.words_for.ensures c.row_words-w-items.ensures in
+    let long = row-long _ _ _ _ _ c.requires.row c.words_for.ensures c.row_words-w-items.ensures.part in
     counting-end _ _ _ _ _ _ _ c.loop-w.invariant c.words_for.ensures (omega arith)
 
 pub overflow_shr-sum : goal.overflow_shr-sum

@@ -1,7 +1,0 @@
--- `making::make::clear_rows` meets its contract. Assumes nothing.
-use mathlib.Core.Path.{◌∙◌}
-use Rattle.store_head.proofs.Clears.{whole-clear}
-use Rattle.making.proofs.make.clear_rows.Goals as goal
-
-pub returns : goal.returns
-returns c = (c.clear.ensures ∙ whole-clear _, (c.clear-2.ensures ∙ whole-clear _, c.clear-3.ensures ∙ whole-clear _))
