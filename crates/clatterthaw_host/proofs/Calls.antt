@@ -1,6 +1,6 @@
 -- A host's call is the store's call over the head that crossed; a head that is none is refused with 1. Assumes nothing.
 use mathlib.Core.Path.{◌≡◌, refl, sym, ap, ◌∙◌}
-use mathlib.Core.Bool.{Bool, true, false, ◌||◌}
+use mathlib.Core.Bool.{Bool, true, false, ◌||◌, false≢true}
 use mathlib.Core.List.{List, []}
 use Prim.Native.Nat.{ℕ, ◌≤◌, ◌<◌}
 use borrow.Author.Tests.{le-leb, lt-leb}
@@ -10,13 +10,13 @@ use Rattle.table.specs.declared.Op.{Op}
 use Rattle.table.specs.Refusals.{Verdict, refused, done}
 use Rattle.table.specs.Room.{kind, is_make}
 use Rattle.table.specs.Run.{ok, nay, reply_of}
+use Rattle.table.specs.Run as table
 use Rattle.model.specs.Store as model
 use Rattle.model.specs.Step.{Result, result_of, step}
 use Rattle.store_head.specs.declared.Numbers.{Numbers}
 use Rattle.std.specs.Prelude.{Ok, Err}
 use Rattle.std.specs.Prelude as std
 use Rattle.std.specs.Borrow.{Bor}
-use lib.ListN.{length}
 use Rattle.store_head.specs.declared.refusal.Refusal.{Refusal}
 use Rattle.store_head.specs.declared.Size.{Size}
 use Rattle.store_head.specs.Lent.{head_of, full_of}
@@ -25,7 +25,7 @@ use Rattle.store_head.specs.Told.{number_says, size_says, list_told, words_says,
 use Rattle.store_head.proofs.Replies.{never}
 use Rattle.store_head.proofs.Slices.{same_head}
 use Rattle.script.specs.declared.Stand.{Stand}
-use Rattle.script.specs.Left.{Left, ran_told, run_of}
+use Rattle.script.specs.Left.{Left, ran_told, run_of, left_by}
 use Rattle.clatterthaw_host.specs.declared.PlainHead.{PlainHead}
 use Rattle.clatterthaw_host.specs.declared.PlainChanged.{PlainChanged}
 use Rattle.clatterthaw_host.specs.declared.PlainNumber.{PlainNumber}
@@ -132,12 +132,12 @@ module _ (p : PlainHead) (o : Op) (f : Numbers → model.Full) (d : Numbers) (e 
     by-change (Err j) x r k a b =
         record {
           told = a ∙ ap (λ (t : Result). changed_by p t.reply t.after.store.head) b;
-          kept = ap (λ (t : PlainChanged). full_of (left (numbers_of t.head)) []) a ∙ ap (λ (z : Numbers). full_of (left z) []) (sym (k tt ∙ e)) ∙ ap (λ (t : Result). t.after) b;
+          kept = ap (λ (t : PlainChanged). full_of (left (numbers_of t.head)) []) a ∙ ap (λ (z : Numbers). full_of (left z) []) (sym (k refl ∙ e)) ∙ ap (λ (t : Result). t.after) b;
         }
 
     pub change-crossed : (y : std.Result (Unit {0}) Refusal) (x : PlainChanged) → x ≡ of_changed p g y → change_told y (left g) ≡ result_of (f d) (step o (f d))
         → Crossed p x (result_of (f (numbers_of p)) (crossing p o (f (numbers_of p)))) (λ z. full_of (left z) [])
-    change-crossed (Ok u) x a b = by-change (Ok u) x (result_of (f (numbers_of p)) (crossing p o (f (numbers_of p)))) (λ n. absurd n) a (b ∙ left-crossed)
+    change-crossed (Ok u) x a b = by-change (Ok u) x (result_of (f (numbers_of p)) (crossing p o (f (numbers_of p)))) (λ n. absurd (false≢true n)) a (b ∙ left-crossed)
     change-crossed (Err j) x a b = by-change (Err j) x (result_of (f (numbers_of p)) (crossing p o (f (numbers_of p)))) (λ n. as-it-was j b) a (b ∙ left-crossed)
 
 -- ---- which step is the host's
@@ -150,6 +150,11 @@ for-make p o f m = by (sound p)
     by : (b : Bool) → step o f ≡ pick (b || is_make (kind o)) (step o f) (refused 1)
     by true = refl
     by false = rw m
+
+-- ---- a run that is refused leaves the store
+run-keeps : (s out : List ℕ) (f : model.Full) (v : Verdict (table.Ran model.Full)) (u : model.Full) (lines : List ℕ) (j : Refusal) → ran_told (Err j) u lines ≡ left_by s out f v → u ≡ f
+run-keeps s out f (refused k) u lines j b = ap (λ (t : Left). t.after) b
+run-keeps s out f (done x a) u lines j b = never _ (number_of j) (ap (λ (t : Left). t.reply) (sym b))
 
 -- ---- a run
 module _ (p : PlainHead) (s out : List ℕ) where
@@ -165,7 +170,7 @@ module _ (p : PlainHead) (s out : List ℕ) where
       none : ◌≡◌ {A = Left} (record { reply = nay 1; after = f; lines = out }) (running p s out f)
       none = rw (lt-leb p.on 1 h)
 
-  module _ (f : Numbers → model.Full) (d : Numbers) (e : d ≡ numbers_of p) (h : p.on ≤ 1) (left : Numbers → model.Full) (over : (z : Numbers) → (left z).store.head ≡ head_of z) (lines : List ℕ) where
+  module _ (f : Numbers → model.Full) (d : Numbers) (e : d ≡ numbers_of p) (h : p.on ≤ 1) (left : Numbers → model.Full) (over : (z : Numbers) → (left z).store.head ≡ head_of z) (under : (f d).store.head ≡ head_of d) (lines : List ℕ) where
     by-run : (g : Numbers) (y : std.Result Stand Refusal) (x : PlainRan) (r : Left) → (std.IsErr y → g ≡ d) → x ≡ of_ran p g y → ran_told y (left g) lines ≡ r → RunCrossed p x r left lines
     by-run g (Ok u) x r k a b =
         record {
@@ -176,12 +181,19 @@ module _ (p : PlainHead) (s out : List ℕ) where
     by-run g (Err j) x r k a b =
         record {
           told = a ∙ ap (λ (t : Left). ran_by p t.reply t.after.store.head) b;
-          kept = ap (λ (t : PlainRan). left (numbers_of t.head)) a ∙ ap left (sym (k tt ∙ e)) ∙ ap (λ (t : Left). t.after) b;
+          kept = ap (λ (t : PlainRan). left (numbers_of t.head)) a ∙ ap left (sym (k refl ∙ e)) ∙ ap (λ (t : Left). t.after) b;
           written = ap (λ (t : Left). t.lines) b;
         }
 
-    pub run-crossed : (g : Numbers) (y : std.Result Stand Refusal) (x : PlainRan) → (std.IsErr y → g ≡ d) → x ≡ of_ran p g y → ran_told y (left g) lines ≡ run_of s out (f d) → RunCrossed p x (running p s out (f (numbers_of p))) left lines
-    run-crossed g y x k a b = by-run g y x (running p s out (f (numbers_of p))) k a (b ∙ ap (λ (z : Numbers). run_of s out (f z)) e ∙ same)
+    run-as-it-was : (g : Numbers) (j : Refusal) → ran_told (Err j) (left g) lines ≡ run_of s out (f d) → g ≡ d
+    run-as-it-was g j b = same_head g d (sym (over g) ∙ ap (λ (t : model.Full). t.store.head) (run-keeps s out (f d) _ (left g) lines j b) ∙ under)
+
+    pub run-crossed : (g : Numbers) (y : std.Result Stand Refusal) (x : PlainRan) → x ≡ of_ran p g y → ran_told y (left g) lines ≡ run_of s out (f d) → RunCrossed p x (running p s out (f (numbers_of p))) left lines
+    run-crossed g y x a b = by-run g y x (running p s out (f (numbers_of p))) (kept y b) a (b ∙ ap (λ (z : Numbers). run_of s out (f z)) e ∙ same)
       where
         same : run_of s out (f (numbers_of p)) ≡ running p s out (f (numbers_of p))
         same = rw (le-leb p.on 1 h)
+
+        kept : (w : std.Result Stand Refusal) → ran_told w (left g) lines ≡ run_of s out (f d) → std.IsErr w → g ≡ d
+        kept (Ok u) c n = absurd (false≢true n)
+        kept (Err j) c n = run-as-it-was g j c

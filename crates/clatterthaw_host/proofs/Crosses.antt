@@ -1,5 +1,11 @@
 -- A host's numbers and a head are the same, and each answer crosses as it is. Assumes nothing.
-use mathlib.Core.Path.{◌≡◌, refl}
+use mathlib.Core.Path.{◌≡◌, refl, ap}
+use mir.Val.{bool_byte}
+use Rattle.std.specs.Prelude.{Result, Ok, Err}
+use Rattle.std.specs.Borrow.{Bor}
+use Rattle.laws.proofs.Parts.{stretch-length}
+use Rattle.store_head.specs.declared.refusal.Refusal.{Refusal}
+use Rattle.store_head.specs.Told.{WordsAt}
 use mathlib.Core.Bool.{Bool, true, false}
 use mathlib.Core.List.{List}
 use Prim.Native.Nat.{ℕ, ◌*◌, ◌^◌, ◌≤◌, ◌<◌}
@@ -11,7 +17,7 @@ use Rattle.laws.specs.Words.{words_for}
 use Rattle.store_head.specs.declared.Numbers.{Numbers}
 use Rattle.clatterthaw_host.specs.declared.PlainHead.{PlainHead}
 use Rattle.clatterthaw_host.specs.Crossing.{numbers_of}
-use Rattle.clatterthaw_host.specs.Told.{plain_numbers}
+use Rattle.clatterthaw_host.specs.Told.{plain_numbers, FewWords}
 
 -- ---- a head that crosses is the same head
 switched : (d : Numbers) (b : Bool) → ◌≡◌ {A = Numbers} (numbers_of (record { h = d.h; w = d.w; n = d.n; slots = d.slots; made = d.made; on = num b })) (record { h = d.h; w = d.w; n = d.n; slots = d.slots; made = d.made; on = b })
@@ -21,8 +27,17 @@ switched d false = refl
 pub there_and_back : (d : Numbers) → numbers_of (plain_numbers d) ≡ d
 there_and_back d = switched d d.on
 
-pub plain-is : (d : Numbers) (b : Bool) → d.on ≡ b → ◌≡◌ {A = PlainHead} (record { h = d.h; w = d.w; n = d.n; slots = d.slots; made = d.made; on = num b }) (plain_numbers d)
-plain-is d b e = rw e
+bit-num : (b : Bool) → bool_byte b ≡ num b
+bit-num true = refl
+bit-num false = refl
+
+pub plain-is : (d : Numbers) (k : ℕ) → k ≡ bool_byte d.on → ◌≡◌ {A = PlainHead} (record { h = d.h; w = d.w; n = d.n; slots = d.slots; made = d.made; on = k }) (plain_numbers d)
+plain-is d k e = rw (e, bit-num d.on)
+
+-- a row's words are few
+pub few : (words : List ℕ) (at n : ℕ) → n < 2 ^ 32 → (y : Result (Bor (List ℕ)) Refusal) → WordsAt words at (words_for n) y → FewWords y
+few words at n h (Ok ws) e = omega (arith, ap length e, stretch-length words at (words_for n))
+few words at n h (Err k) e = tt
 
 -- ---- where a row's part of the words begins
 pub start-past : (homes : List ℕ) (r n : ℕ) → length homes ≤ r → 0 ≡ get_or homes r 0 * words_for n

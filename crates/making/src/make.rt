@@ -4,12 +4,12 @@ ghost use Rattle.table.specs.declared.Op.TheVariants.{Make};
 ghost use Rattle.table.specs.Room.{short};
 ghost use Rattle.model.specs.Store.{lent_of};
 ghost use Rattle.model.specs.Step.{step, inner, result_of};
-ghost use Rattle.store_head.specs.Lent.{lent, full_of, SameSlices};
+ghost use Rattle.store_head.specs.Lent.{seen, lent, full_of, SameSlices};
 ghost use Rattle.store_head.specs.Told.{change_told};
 ghost use Rattle.store_head.specs.Refused.{refusal_of, refused_by};
 ghost use Rattle.making.specs.Making.{outside};
 
-use store_head::{Numbers, Refusal, StoreMut};
+use store_head::{Numbers, Refusal, Store, StoreMut};
 use table::Sizes;
 
 // Refusal 2: whether the sizes are outside the limits.
@@ -23,8 +23,8 @@ fn outside_limits(p: Sizes) -> bool
 }
 
 // Refusal 3: whether one of the buffers is too short. Products of two 32-bit numbers fit a usize.
-fn too_short(store: &StoreMut, p: Sizes) -> bool
-    ensures { result ≡ short (lent_of (full_of (lent store.now) [])) p }
+fn too_short(store: &Store, p: Sizes) -> bool
+    ensures { result ≡ short (lent_of (full_of (seen store.now) [])) p }
 {
     let h = p.h as usize;
     let w = p.w as usize;
@@ -42,8 +42,8 @@ fn too_short(store: &StoreMut, p: Sizes) -> bool
 }
 
 // The refusal of MAKE: 2 outside the limits, 3 where a buffer is too short. The numbers in the buffers count for nothing.
-pub fn refuse_make(store: &StoreMut, p: Sizes) -> Result<(), Refusal>
-    ensures { refused_by result ≡ refusal_of (inner (Make p) (full_of (lent store.now) [])) }
+pub fn refuse_make(store: &Store, p: Sizes) -> Result<(), Refusal>
+    ensures { refused_by result ≡ refusal_of (inner (Make p) (full_of (seen store.now) [])) }
 {
     if outside_limits(p) {
         return Err(Refusal::Size);
@@ -59,7 +59,7 @@ pub fn new(store: &mut StoreMut, p: Sizes) -> Result<(), Refusal>
     ensures told { change_told result (lent store.new) ≡ result_of (full_of (lent store.old) []) (step (Make p) (full_of (lent store.old) [])) }
     ensures same { SameSlices store.old store.new }
 {
-    refuse_make(store, p)?;
+    refuse_make(&store.view(), p)?;
     store.slots.fill(0);
     store.counts.fill(0);
     store.words.fill(0);

@@ -1,5 +1,4 @@
 pub mod Arms
-pub mod Left
 pub mod Others
 pub mod Checks
 pub mod Numbers

@@ -6,3 +6,4 @@ pub mod Slices
 pub mod Parts
 pub mod QueryPlaces
 pub mod Clears
+pub mod Left

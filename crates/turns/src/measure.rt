@@ -5,7 +5,7 @@ ghost use Rattle.table.specs.declared.Op.TheVariants.{Iter, TailOnes, ColOnes};
 ghost use Rattle.table.specs.Run.{reply_of};
 ghost use Rattle.model.specs.WellFormed.{WellFormed};
 ghost use Rattle.model.specs.Step.{inner};
-ghost use Rattle.store_head.specs.Lent.{seen, lent, full_of};
+ghost use Rattle.store_head.specs.Lent.{seen, full_of};
 ghost use Rattle.store_head.specs.Refused.{refusal_of};
 ghost use Rattle.lines.specs.Line.{line_long};
 ghost use Rattle.operations.specs.Applied.{form};
@@ -14,7 +14,7 @@ ghost use Rattle.turns.specs.Said.{long_by, most_long};
 use operations::refuse;
 use permutation::LogicalRow;
 use queries::{query, row_tail};
-use store_head::{Refusal, Store, StoreMut, places};
+use store_head::{Refusal, Store, places};
 use table::{ColumnRange, Op, RowRange, RowTail};
 
 // The line of ITER, where nothing refuses it.
@@ -51,25 +51,24 @@ fn column_line(store: &Store, answers: &[u32], p: ColumnRange) -> usize
 }
 
 // The line of an operation that nothing refuses; what refuses any other.
-fn answer_length(store: &StoreMut, answers: &[u32], op: Op) -> Result<usize, Refusal>
-    requires { WellFormed (lent store.now) }
-    ensures { long_by result ≡ line_long (reply_of (inner op (full_of (lent store.now) answers.now))) }
+fn answer_length(store: &Store, answers: &[u32], op: Op) -> Result<usize, Refusal>
+    requires { WellFormed (seen store.now) }
+    ensures { long_by result ≡ line_long (reply_of (inner op (full_of (seen store.now) answers.now))) }
 {
     refuse::refusal(store, answers, op)?;
-    let view = store.view();
     match op {
-        Op::Get(p) => Ok(lines::number_length(query::get_in(&view, p.r, p.c)?)),
+        Op::Get(p) => Ok(lines::number_length(query::get_in(store, p.r, p.c)?)),
         Op::Count(p) => {
-            let n = query::count_ones_in(&view, p.r, p.a, p.b)?;
+            let n = query::count_ones_in(store, p.r, p.a, p.b)?;
             Ok(lines::number_length(n))
         }
         Op::Words(p) => {
-            let words = row_tail::get_sub_row_in(&view, p.r, p.a)?;
+            let words = row_tail::get_sub_row_in(store, p.r, p.a)?;
             Ok(lines::list_length(words))
         }
-        Op::TailOnes(p) => Ok(tail_line(&view, answers, p)),
-        Op::Iter(p) => Ok(iter_line(&view, answers, p)),
-        Op::ColOnes(p) => Ok(column_line(&view, answers, p)),
+        Op::TailOnes(p) => Ok(tail_line(store, answers, p)),
+        Op::Iter(p) => Ok(iter_line(store, answers, p)),
+        Op::ColOnes(p) => Ok(column_line(store, answers, p)),
         Op::Size => Ok(lines::three_length(store.head.h, store.head.w, store.head.n)),
         // What changes the store answers `ok` alone.
         _ => Ok(3),
@@ -77,9 +76,9 @@ fn answer_length(store: &StoreMut, answers: &[u32], op: Op) -> Result<usize, Ref
 }
 
 // The line of any operation, refused or not.
-fn line_length(store: &StoreMut, answers: &[u32], op: Op) -> usize
-    requires { WellFormed (lent store.now) }
-    ensures { result ≡ line_long (reply_of (inner op (full_of (lent store.now) answers.now))) }
+fn line_length(store: &Store, answers: &[u32], op: Op) -> usize
+    requires { WellFormed (seen store.now) }
+    ensures { result ≡ line_long (reply_of (inner op (full_of (seen store.now) answers.now))) }
 {
     match answer_length(store, answers, op) {
         Ok(long) => long,
@@ -101,9 +100,9 @@ fn most_long(op: Op, answers: &[u32]) -> usize
 }
 
 // Whether the line of an operation has room. Where its longest one has, nothing is measured: the store is asked once, by the operation itself.
-pub fn has_room(store: &StoreMut, answers: &[u32], op: Op, room: usize) -> bool
-    requires { WellFormed (lent store.now) }
-    ensures { result ≡ leb (line_long (reply_of (inner op (full_of (lent store.now) answers.now)))) room }
+pub fn has_room(store: &Store, answers: &[u32], op: Op, room: usize) -> bool
+    requires { WellFormed (seen store.now) }
+    ensures { result ≡ leb (line_long (reply_of (inner op (full_of (seen store.now) answers.now)))) room }
 {
     most_long(op, answers) <= room || line_length(store, answers, op) <= room
 }

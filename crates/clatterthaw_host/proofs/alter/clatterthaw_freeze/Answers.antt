@@ -7,7 +7,9 @@ use Rattle.store_head.specs.declared.Numbers.{Numbers}
 use Rattle.store_head.specs.Lent.{store_of, full_of}
 use Rattle.clatterthaw_host.specs.Crossing.{numbers_of}
 use Rattle.clatterthaw_host.proofs.Calls.{change-broken, change-crossed, whole-head}
-use mathlib.Core.Path.{refl}
+use mathlib.Core.Path.{refl, sym, ap, ◌∙◌}
+use Rattle.store_head.specs.Told.{change_told}
+use Rattle.store_head.proofs.Left.{cells-left}
 use Rattle.clatterthaw_host.proofs.alter.clatterthaw_freeze.Goals.{Start}
 use Rattle.clatterthaw_host.proofs.alter.clatterthaw_freeze.Goals as goal
 
@@ -19,7 +21,7 @@ abbrev lent : Start → Numbers → Full
 lent c d = full_of (store_of d c.args.slots.now c.args.counts.now c.args.row_homes.now c.args.row_logicals.now c.args.column_homes.now c.args.column_logicals.now c.args.marks.now c.args.starts.now c.args.entries.now c.args.words.now) []
 
 pub returns-then-p-gt1 : goal.returns-then-p-gt1
-returns-then-p-gt1 c = change-broken c.args.p (asked (goal.at.returns-then-p-gt1 c).Start) (lent (goal.at.returns-then-p-gt1 c).Start (numbers_of c.args.p)) refl c.if-p-gt1.true _ refl
+returns-then-p-gt1 c = rw c.number.ensures (change-broken c.args.p (asked (goal.at.returns-then-p-gt1 c).Start) (lent (goal.at.returns-then-p-gt1 c).Start (numbers_of c.args.p)) refl c.if-p-gt1.true _ refl)
 
 pub returns : goal.returns
-returns c = change-crossed c.args.p (asked (goal.at.returns c).Start) (lent (goal.at.returns c).Start) c.head.result.0 c.head.ensures (whole-head c.args.p (asked (goal.at.returns c).Start) (lent (goal.at.returns c).Start (numbers_of c.args.p)) c.if-p-gt1.false) _ (λ z. refl) c.hint_column_dense_and_frozen-x.result c.changed.result c.changed.ensures c.hint_column_dense_and_frozen-x.ensures
+returns c = change-crossed c.args.p (asked (goal.at.returns c).Start) (lent (goal.at.returns c).Start) c.head.result c.head.ensures (whole-head c.args.p (asked (goal.at.returns c).Start) (lent (goal.at.returns c).Start (numbers_of c.args.p)) c.if-p-gt1.false) _ (λ z. refl) refl _ c.hint_column_dense_and_frozen-told.result c.changed.result c.changed.ensures (sym (ap (change_told _) (cells-left _ _ c.hint_column_dense_and_frozen-told.ensures.same _ _ _ c.slots-1.given.1.1 c.counts-1.given.1.1 c.words-1.given.1.1)) ∙ c.hint_column_dense_and_frozen-told.ensures.told)

@@ -18,7 +18,7 @@ abbrev lent : Start → Numbers → Full
 lent c d = full_of (store_of d c.args.slots.now c.args.counts.now c.args.row_homes.now c.args.row_logicals.now c.args.column_homes.now c.args.column_logicals.now c.args.marks.now c.args.starts.now c.args.entries.now c.args.words.now) c.args.answers.now
 
 pub returns-then-p-gt1 : goal.returns-then-p-gt1
-returns-then-p-gt1 c = list-broken c.args.p (asked (goal.at.returns-then-p-gt1 c).Start) (lent (goal.at.returns-then-p-gt1 c).Start (numbers_of c.args.p)) refl c.if-p-gt1.true
+returns-then-p-gt1 c = rw c.number.ensures (list-broken c.args.p (asked (goal.at.returns-then-p-gt1 c).Start) (lent (goal.at.returns-then-p-gt1 c).Start (numbers_of c.args.p)) refl c.if-p-gt1.true)
 
 pub returns : goal.returns
 returns c = list-crossed c.args.p (asked (goal.at.returns c).Start) (lent (goal.at.returns c).Start) c.head.result c.head.ensures (whole-head c.args.p (asked (goal.at.returns c).Start) (lent (goal.at.returns c).Start (numbers_of c.args.p)) c.if-p-gt1.false) _ c.get_row_iter.result c.list.result _ c.list.ensures c.get_row_iter.ensures

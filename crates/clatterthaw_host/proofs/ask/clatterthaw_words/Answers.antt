@@ -6,6 +6,8 @@ use Rattle.model.specs.Store.{Full}
 use Rattle.store_head.specs.declared.Numbers.{Numbers}
 use Rattle.store_head.specs.Lent.{store_of, full_of}
 use Rattle.clatterthaw_host.specs.Crossing.{numbers_of}
+use native.Mathlib.Omega.{arith}
+use Rattle.clatterthaw_host.proofs.Crosses.{few}
 use Rattle.clatterthaw_host.proofs.Calls.{words-broken, words-crossed, whole-head}
 use mathlib.Core.Path.{refl}
 use Rattle.clatterthaw_host.proofs.ask.clatterthaw_words.Goals.{Start}
@@ -19,10 +21,10 @@ abbrev lent : Start → Numbers → Full
 lent c d = full_of (store_of d c.args.slots.now c.args.counts.now c.args.row_homes.now c.args.row_logicals.now c.args.column_homes.now c.args.column_logicals.now c.args.marks.now c.args.starts.now c.args.entries.now c.args.words.now) []
 
 pub returns-then-p-gt1 : goal.returns-then-p-gt1
-returns-then-p-gt1 c = words-broken c.args.p (asked (goal.at.returns-then-p-gt1 c).Start) (lent (goal.at.returns-then-p-gt1 c).Start (numbers_of c.args.p)) refl c.if-p-gt1.true _
+returns-then-p-gt1 c = rw c.number.ensures (words-broken c.args.p (asked (goal.at.returns-then-p-gt1 c).Start) (lent (goal.at.returns-then-p-gt1 c).Start (numbers_of c.args.p)) refl c.if-p-gt1.true _)
 
 pub words-requires : goal.words-requires
-words-requires c = few _ _ _ c.get_sub_row.result c.get_sub_row.ensures.place
+words-requires c = few _ _ _ (omega arith) c.get_sub_row.result c.get_sub_row.ensures.place
 
 pub returns : goal.returns
 returns c = rw c.part_start-start.ensures at (words-crossed c.args.p (asked (goal.at.returns c).Start) (lent (goal.at.returns c).Start) c.head.result c.head.ensures (whole-head c.args.p (asked (goal.at.returns c).Start) (lent (goal.at.returns c).Start (numbers_of c.args.p)) c.if-p-gt1.false) c.part_start-start.result c.get_sub_row.result c.words.result c.words.ensures c.get_sub_row.ensures.told)

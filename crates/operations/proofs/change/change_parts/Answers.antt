@@ -2,7 +2,7 @@
 use mathlib.Core.Path.{refl, ap, ◌∙◌}
 use Rattle.model.specs.Step.{result_of}
 use Rattle.operations.proofs.Arms.{not-make, as-left, make-inner}
-use Rattle.operations.proofs.Left.{lent-left, cells-left, sums-left, row_maps-left, column_maps-left, index-left, shape-left}
+use Rattle.store_head.proofs.Left.{lent-left, cells-left, sums-left, row_maps-left, column_maps-left, index-left, shape-left}
 use Rattle.operations.proofs.Others.{changes-one}
 use Rattle.operations.proofs.change.change_parts.Goals as goal
 

@@ -1,6 +1,5 @@
 -- `operations::refuse::refusal` meets its contract. Assumes nothing.
 use mathlib.Core.Path.{refl}
-use Rattle.store_head.proofs.Refuses.{seen-refused}
 use Rattle.changes.proofs.Swaps.{rows-by-head, columns-by-head}
 use Rattle.reshape.proofs.Resizes.{by-head}
 use Rattle.operations.proofs.Arms.{not-make}
@@ -8,16 +7,16 @@ use Rattle.operations.proofs.Numbers.{beside-refused, asked-refused, asked-free,
 use Rattle.operations.proofs.refuse.refusal.Goals as goal
 
 pub refuse_set-requires : goal.refuse_set-requires
-refuse_set-requires c = rw c.view.ensures (c.requires (not-make _ _ c.in-Set.is refl))
+refuse_set-requires c = c.requires (not-make _ _ c.in-Set.is refl)
 
 pub refuse_add-requires : goal.refuse_add-requires
-refuse_add-requires c = rw c.view-in-Add.ensures (c.requires (not-make _ _ c.in-Add.is refl))
+refuse_add-requires c = c.requires (not-make _ _ c.in-Add.is refl)
 
 pub refuse_on-requires : goal.refuse_on-requires
-refuse_on-requires c = rw c.view-in-On.ensures (c.requires (not-make _ _ c.in-On.is refl))
+refuse_on-requires c = c.requires (not-make _ _ c.in-On.is refl)
 
 pub refuse_freeze-requires : goal.refuse_freeze-requires
-refuse_freeze-requires c = rw c.view-in-Freeze.ensures (c.requires (not-make _ _ c.in-Freeze.is refl))
+refuse_freeze-requires c = c.requires (not-make _ _ c.in-Freeze.is refl)
 
 pub refuse_swap_columns-requires : goal.refuse_swap_columns-requires
 refuse_swap_columns-requires c = (c.requires (not-make _ _ c.in-SwapC.is refl)).limits.tail
@@ -26,16 +25,16 @@ pub returns-in-Make : goal.returns-in-Make
 returns-in-Make c = beside-refused _ _ c.in-Make.is refl _ _ _ c.refuse_make.ensures
 
 pub returns-in-Set : goal.returns-in-Set
-returns-in-Set c = beside-refused _ _ c.in-Set.is refl _ _ _ (seen-refused _ _ _ c.view.ensures _ c.refuse_set.ensures)
+returns-in-Set c = beside-refused _ _ c.in-Set.is refl _ _ _ c.refuse_set.ensures
 
 pub returns-in-Add : goal.returns-in-Add
-returns-in-Add c = beside-refused _ _ c.in-Add.is refl _ _ _ (seen-refused _ _ _ c.view-in-Add.ensures _ c.refuse_add.ensures)
+returns-in-Add c = beside-refused _ _ c.in-Add.is refl _ _ _ c.refuse_add.ensures
 
 pub returns-in-On : goal.returns-in-On
-returns-in-On c = beside-refused _ _ c.in-On.is refl _ _ _ (seen-refused _ _ _ c.view-in-On.ensures _ c.refuse_on.ensures)
+returns-in-On c = beside-refused _ _ c.in-On.is refl _ _ _ c.refuse_on.ensures
 
 pub returns-in-Freeze : goal.returns-in-Freeze
-returns-in-Freeze c = beside-refused _ _ c.in-Freeze.is refl _ _ _ (seen-refused _ _ _ c.view-in-Freeze.ensures _ c.refuse_freeze.ensures)
+returns-in-Freeze c = beside-refused _ _ c.in-Freeze.is refl _ _ _ c.refuse_freeze.ensures
 
 pub returns-in-SwapR : goal.returns-in-SwapR
 returns-in-SwapR c = beside-refused _ _ c.in-SwapR.is refl _ _ _ (rows-by-head _ _ _ c.refuse_swap_rows.ensures)
@@ -50,19 +49,19 @@ pub returns-in-Off : goal.returns-in-Off
 returns-in-Off c = free-of-two _ c.in-Off.is _ _
 
 pub returns-in_err-get_in-in-Get : goal.returns-in_err-get_in-in-Get
-returns-in_err-get_in-in-Get c = asked-refused _ _ c.in-Get.is refl _ _ c.view-in-Get.ensures _ _ _ c.from_residual.ensures.1 c.in_err-get_in-in-Get.ensures
+returns-in_err-get_in-in-Get c = asked-refused _ _ c.in-Get.is refl _ _ refl _ _ _ c.from_residual.ensures.1 c.in_err-get_in-in-Get.ensures
 
 pub returns-in_ok-get_in-in-Get : goal.returns-in_ok-get_in-in-Get
-returns-in_ok-get_in-in-Get c = asked-free _ _ c.in-Get.is refl _ _ c.view-in-Get.ensures _ _ c.in_ok-get_in-in-Get.ensures
+returns-in_ok-get_in-in-Get c = asked-free _ _ c.in-Get.is refl _ _ refl _ _ c.in_ok-get_in-in-Get.ensures
 
 pub returns-in_err-count_ones_in-in-Count : goal.returns-in_err-count_ones_in-in-Count
-returns-in_err-count_ones_in-in-Count c = asked-refused _ _ c.in-Count.is refl _ _ c.view-in-Count.ensures _ _ _ c.from_residual-in_err-count_ones_in-in-Count.ensures.1 c.in_err-count_ones_in-in-Count.ensures
+returns-in_err-count_ones_in-in-Count c = asked-refused _ _ c.in-Count.is refl _ _ refl _ _ _ c.from_residual-in_err-count_ones_in-in-Count.ensures.1 c.in_err-count_ones_in-in-Count.ensures
 
 pub returns-in_ok-count_ones_in-in-Count : goal.returns-in_ok-count_ones_in-in-Count
-returns-in_ok-count_ones_in-in-Count c = asked-free _ _ c.in-Count.is refl _ _ c.view-in-Count.ensures _ _ c.in_ok-count_ones_in-in-Count.ensures
+returns-in_ok-count_ones_in-in-Count c = asked-free _ _ c.in-Count.is refl _ _ refl _ _ c.in_ok-count_ones_in-in-Count.ensures
 
 pub returns-in_err-get_sub_row_in-in-Words : goal.returns-in_err-get_sub_row_in-in-Words
-returns-in_err-get_sub_row_in-in-Words c = asked-refused _ _ c.in-Words.is refl _ _ c.view-in-Words.ensures _ _ _ c.from_residual-in_err-get_sub_row_in-in-Words.ensures.1 c.in_err-get_sub_row_in-in-Words.ensures.told
+returns-in_err-get_sub_row_in-in-Words c = asked-refused _ _ c.in-Words.is refl _ _ refl _ _ _ c.from_residual-in_err-get_sub_row_in-in-Words.ensures.1 c.in_err-get_sub_row_in-in-Words.ensures.told
 
 pub returns-in_ok-get_sub_row_in-in-Words : goal.returns-in_ok-get_sub_row_in-in-Words
-returns-in_ok-get_sub_row_in-in-Words c = asked-free _ _ c.in-Words.is refl _ _ c.view-in-Words.ensures _ _ c.in_ok-get_sub_row_in-in-Words.ensures.told
+returns-in_ok-get_sub_row_in-in-Words c = asked-free _ _ c.in-Words.is refl _ _ refl _ _ c.in_ok-get_sub_row_in-in-Words.ensures.told

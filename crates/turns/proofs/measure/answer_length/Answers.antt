@@ -9,52 +9,52 @@ pub returns-in_err-refusal : goal.returns-in_err-refusal
 returns-in_err-refusal c = refused-line _ _ _ _ c.from_residual.ensures.1 c.in_err-refusal.ensures
 
 pub get_in-requires : goal.get_in-requires
-get_in-requires c = rw c.view-view.ensures c.requires
+get_in-requires c = c.requires
 
 pub count_ones_in-requires : goal.count_ones_in-requires
-count_ones_in-requires c = rw c.view-view.ensures c.requires
+count_ones_in-requires c = c.requires
 
 pub get_sub_row_in-requires : goal.get_sub_row_in-requires
-get_sub_row_in-requires c = rw c.view-view.ensures c.requires
+get_sub_row_in-requires c = c.requires
 
 pub tail_line-requires : goal.tail_line-requires
-tail_line-requires c = record { well_formed = rw c.view-view.ensures c.requires; value = seen-free _ _ c.in-TailOnes.is _ _ c.view-view.ensures _ c.in_ok-refusal.ensures }
+tail_line-requires c = record { well_formed = c.requires; value = seen-free _ _ c.in-TailOnes.is _ _ refl _ c.in_ok-refusal.ensures }
 
 pub iter_line-requires : goal.iter_line-requires
-iter_line-requires c = record { well_formed = rw c.view-view.ensures c.requires; value = seen-free _ _ c.in-Iter.is _ _ c.view-view.ensures _ c.in_ok-refusal.ensures }
+iter_line-requires c = record { well_formed = c.requires; value = seen-free _ _ c.in-Iter.is _ _ refl _ c.in_ok-refusal.ensures }
 
 pub column_line-requires : goal.column_line-requires
-column_line-requires c = record { well_formed = rw c.view-view.ensures c.requires; value = seen-free _ _ c.in-ColOnes.is _ _ c.view-view.ensures _ c.in_ok-refusal.ensures }
+column_line-requires c = record { well_formed = c.requires; value = seen-free _ _ c.in-ColOnes.is _ _ refl _ c.in_ok-refusal.ensures }
 
 pub list_length-requires : goal.list_length-requires
-list_length-requires c = words-few (seen c.view-view.result) (rw c.view-view.ensures c.requires) _ _ c.in_ok-words-in-Words.ensures.place
+list_length-requires c = words-few (seen c.args.store.now) c.requires _ _ c.in_ok-words-in-Words.ensures.place
 
 pub returns-in_err-get_in-in-Get : goal.returns-in_err-get_in-in-Get
-returns-in_err-get_in-in-Get c = asked-refused _ _ c.in-Get.is refl _ _ c.view-view.ensures _ _ _ c.from_residual-in_err-get_in-in-Get.ensures.1 c.in_err-get_in-in-Get.ensures
+returns-in_err-get_in-in-Get c = asked-refused _ _ c.in-Get.is refl _ _ refl _ _ _ c.from_residual-in_err-get_in-in-Get.ensures.1 c.in_err-get_in-in-Get.ensures
 
 pub returns-in_err-n-in-Count : goal.returns-in_err-n-in-Count
-returns-in_err-n-in-Count c = asked-refused _ _ c.in-Count.is refl _ _ c.view-view.ensures _ _ _ c.from_residual-in_err-n-in-Count.ensures.1 c.in_err-n-in-Count.ensures
+returns-in_err-n-in-Count c = asked-refused _ _ c.in-Count.is refl _ _ refl _ _ _ c.from_residual-in_err-n-in-Count.ensures.1 c.in_err-n-in-Count.ensures
 
 pub returns-in_err-words-in-Words : goal.returns-in_err-words-in-Words
-returns-in_err-words-in-Words c = asked-refused _ _ c.in-Words.is refl _ _ c.view-view.ensures _ _ _ c.from_residual-in_err-words-in-Words.ensures.1 c.in_err-words-in-Words.ensures.told
+returns-in_err-words-in-Words c = asked-refused _ _ c.in-Words.is refl _ _ refl _ _ _ c.from_residual-in_err-words-in-Words.ensures.1 c.in_err-words-in-Words.ensures.told
 
 pub returns-in_ok-get_in-in-Get : goal.returns-in_ok-get_in-in-Get
-returns-in_ok-get_in-in-Get c = asked-line _ _ c.in-Get.is refl _ _ c.view-view.ensures _ _ c.in_ok-get_in-in-Get.ensures _ c.number_length.ensures
+returns-in_ok-get_in-in-Get c = asked-line _ _ c.in-Get.is refl _ _ refl _ _ c.in_ok-get_in-in-Get.ensures _ c.number_length.ensures
 
 pub returns-in_ok-n-in-Count : goal.returns-in_ok-n-in-Count
-returns-in_ok-n-in-Count c = asked-line _ _ c.in-Count.is refl _ _ c.view-view.ensures _ _ c.in_ok-n-in-Count.ensures _ c.number_length-in-Count.ensures
+returns-in_ok-n-in-Count c = asked-line _ _ c.in-Count.is refl _ _ refl _ _ c.in_ok-n-in-Count.ensures _ c.number_length-in-Count.ensures
 
 pub returns-in_ok-words-in-Words : goal.returns-in_ok-words-in-Words
-returns-in_ok-words-in-Words c = asked-line _ _ c.in-Words.is refl _ _ c.view-view.ensures _ _ c.in_ok-words-in-Words.ensures.told _ (same-list _ _ c.list_length.ensures.0)
+returns-in_ok-words-in-Words c = asked-line _ _ c.in-Words.is refl _ _ refl _ _ c.in_ok-words-in-Words.ensures.told _ (same-list _ _ c.list_length.ensures.0)
 
 pub returns-in-TailOnes : goal.returns-in-TailOnes
-returns-in-TailOnes c = seen-line _ _ c.in-TailOnes.is _ _ c.view-view.ensures _ _ c.tail_line.ensures
+returns-in-TailOnes c = seen-line _ _ c.in-TailOnes.is _ _ refl _ _ c.tail_line.ensures
 
 pub returns-in-Iter : goal.returns-in-Iter
-returns-in-Iter c = seen-line _ _ c.in-Iter.is _ _ c.view-view.ensures _ _ c.iter_line.ensures
+returns-in-Iter c = seen-line _ _ c.in-Iter.is _ _ refl _ _ c.iter_line.ensures
 
 pub returns-in-ColOnes : goal.returns-in-ColOnes
-returns-in-ColOnes c = seen-line _ _ c.in-ColOnes.is _ _ c.view-view.ensures _ _ c.column_line.ensures
+returns-in-ColOnes c = seen-line _ _ c.in-ColOnes.is _ _ refl _ _ c.column_line.ensures
 
 pub returns-in-Size : goal.returns-in-Size
 returns-in-Size c = as_line _ _ c.in-Size.is _ _ (answer-line _ _ (as-free _ _ c.in-Size.is _ c.in_ok-refusal.ensures) _ refl _ c.three_length.ensures)
