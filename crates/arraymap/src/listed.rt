@@ -37,8 +37,9 @@ impl<'a> Listed<'a> {
         ensures { result ≡ row_listed self.now.starts.now self.now.entries.now (row_of self.now.rows.slots.now self.now.rows.counts.now self.now.rows.k) y }
     {
         let x = y as u32;
+        let mut near = 0;
         for z in self.rows.row(y) {
-            if !sparse_vec::get(self.list(*z as usize), x) {
+            if !sparse_vec::get_near(self.list(*z as usize), x, &mut near) {
                 return false;
             }
         }
@@ -57,8 +58,9 @@ impl<'a> Listed<'a> {
         requires { z < self.now.rows.m }
         ensures { result ≡ all_below (length (list_at self.now.starts.now self.now.entries.now z)) (holds_at (row_of self.now.rows.slots.now self.now.rows.counts.now self.now.rows.k) z (list_at self.now.starts.now self.now.entries.now z)) }
     {
+        let mut near = 0;
         for y in self.list(z) {
-            if !self.rows.holds(*y as usize, z) {
+            if !self.rows.holds(*y as usize, z, &mut near) {
                 return false;
             }
         }

@@ -28,14 +28,14 @@ impl<'a> HomeRows<'a> {
         &self.slots[at..at + self.counts[y] as usize]
     }
 
-    // Whether home row y holds home column z.
-    pub fn holds(&self, y: usize, z: usize) -> bool
+    // Whether home row y holds home column z, which may stand near the place where the row before held it.
+    pub fn holds(&self, y: usize, z: usize, near: &mut usize) -> bool
         requires { y < self.now.h }
         ensures { result ≡ member z (row_of self.now.slots.now self.now.counts.now self.now.k y) }
     {
         let row = self.row(y);
         match u16::try_from(z) {
-            Ok(z) => sparse_vec::get(row, z),
+            Ok(z) => sparse_vec::get_near(row, z, near),
             Err(_) => false,
         }
     }

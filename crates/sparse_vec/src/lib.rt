@@ -9,6 +9,6 @@ mod row;
 
 pub use add::{add_assign, sum_fits};
 pub use change::{insert, remove};
-pub use find::{Narrow, get, key_to_internal_index};
+pub use find::{Narrow, get, get_near, key_to_internal_index};
 pub use mapped::{count_in, retain, sound, walk};
 pub use row::Row;
