@@ -1,4 +1,5 @@
 // ADD: row d becomes the sum of rows d and s over bits. Nothing is written before every refusal is decided.
+// `inline(always)`: a store handed by reference to a function that is not inlined is laid out in memory first (docs/DECISIONS.md, "Form").
 ghost use Rattle.std.specs.Prelude.{◌≡◌, not, ◌&&◌, [], ◌*◌, ◌<◌, eqb, length, get_or, set};
 ghost use Rattle.laws.specs.Plain.{pick};
 ghost use Rattle.sparse_vec.specs.Row.{put_row};
@@ -117,6 +118,7 @@ fn add_lists(slots: &mut [u16], counts: &mut [u16], all: bool, k: usize, y: usiz
 }
 
 // The refusal of ADD: 4 a row past the height, 6 a start between, 7 the same row, then those of the sum.
+#[inline(always)]
 pub fn refuse_add(store: &Store, d: u32, s: u32, start: u32) -> Result<(), Refusal>
     requires { WellFormed (seen store.now) }
     ensures { refused_by result ≡ refusal_of (inner (Add (adding d s start)) (full_of (seen store.now) [])) }
@@ -150,6 +152,7 @@ pub fn refuse_add(store: &Store, d: u32, s: u32, start: u32) -> Result<(), Refus
 }
 
 // ADD: "row d xor row s: start 0 all columns, start w-n tail only", with the cancelled column's mark spent where the index is on.
+#[inline(always)]
 pub fn add_assign_rows_in(store: &mut SumMut, d: u32, s: u32, start: u32) -> Result<(), Refusal>
     requires { WellFormed (sums store.old) }
     ensures told { change_told result (sums store.new) ≡ result_of (full_of (sums store.old) []) (inner (Add (adding d s start)) (full_of (sums store.old) [])) }

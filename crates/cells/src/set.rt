@@ -1,4 +1,5 @@
 // SET: a one put into a row's list or taken out of it, or a bit of the tail.
+// `inline(always)`: a store handed by reference to a function that is not inlined is laid out in memory first (docs/DECISIONS.md, "Form").
 ghost use Rattle.std.specs.Prelude.{◌≡◌, [], ◌*◌, ◌≤◌, leb, length, set};
 ghost use Rattle.laws.specs.Parts.{part, row_of};
 ghost use Rattle.sparse_vec.specs.Row.{put_row};
@@ -64,6 +65,7 @@ fn change_row(slots: &mut [u16], counts: &mut [u16], y: usize, k: usize, z: u16,
 }
 
 // The refusal of SET: 4 past the height, 5 past the width; of a sparse column 9 while the index is on, 12 where the row has no slot left for it.
+#[inline(always)]
 pub fn refuse_set(store: &Store, r: u32, c: u32, v: u8) -> Result<(), Refusal>
     requires { WellFormed (seen store.now) }
     ensures { refused_by result ≡ refusal_of (inner (Set (place r c v)) (full_of (seen store.now) [])) }
@@ -97,6 +99,7 @@ pub fn refuse_set(store: &Store, r: u32, c: u32, v: u8) -> Result<(), Refusal>
 }
 
 // SET: cell `r`, `c` becomes one, or zero where `v` is 0. Refused with 4, 5, 9 or 12; a tail column only with 4 or 5.
+#[inline(always)]
 pub fn set_in(store: &mut CellsMut, r: u32, c: u32, v: u8) -> Result<(), Refusal>
     requires { WellFormed (cells store.old) }
     ensures told { change_told result (cells store.new) ≡ result_of (full_of (cells store.old) []) (inner (Set (place r c v)) (full_of (cells store.old) [])) }

@@ -1,4 +1,5 @@
 // SWAPR and SWAPC: only the maps change. A row or column stays at its home.
+// `inline(always)`: a store handed by reference to a function that is not inlined is laid out in memory first (docs/DECISIONS.md, "Form").
 ghost use Rattle.std.specs.Prelude.{◌≡◌, [], ◌≤◌};
 ghost use Rattle.table.specs.declared.Op.TheVariants.{SwapR, SwapC};
 ghost use Rattle.model.specs.WellFormed.{WellFormed};
@@ -47,6 +48,7 @@ pub fn refuse_swap_columns(head: Numbers, i: u32, j: u32) -> Result<(), Refusal>
 }
 
 // SWAPR: rows `i` and `j` are exchanged ("i = j allowed"), or refused with 4.
+#[inline(always)]
 pub fn swap_rows_in(store: &mut RowMapsMut, i: u32, j: u32) -> Result<(), Refusal>
     requires { WellFormed (row_maps store.old) }
     ensures told { change_told result (row_maps store.new) ≡ result_of (full_of (row_maps store.old) []) (inner (SwapR (two i j)) (full_of (row_maps store.old) [])) }
@@ -63,6 +65,7 @@ pub fn swap_rows_in(store: &mut RowMapsMut, i: u32, j: u32) -> Result<(), Refusa
 }
 
 // SWAPC: columns `i` and `j` are exchanged, or refused with 5 where one is past the width, then with 6 where one is in the tail.
+#[inline(always)]
 pub fn swap_columns_in(store: &mut ColumnMapsMut, i: u32, j: u32) -> Result<(), Refusal>
     requires { WellFormed (column_maps store.old) }
     ensures told { change_told result (column_maps store.new) ≡ result_of (full_of (column_maps store.old) []) (inner (SwapC (two i j)) (full_of (column_maps store.old) [])) }

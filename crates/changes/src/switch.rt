@@ -1,4 +1,5 @@
 // ON and OFF: the index is built anew, or dropped. Of its buffers only what was used is written: the rest is zero already.
+// `inline(always)`: a store handed by reference to a function that is not inlined is laid out in memory first (docs/DECISIONS.md, "Form").
 ghost use Rattle.std.specs.Prelude.{◌≡◌, []};
 ghost use Rattle.table.specs.declared.Op.TheVariants.{On, Off};
 ghost use Rattle.model.specs.WellFormed.{WellFormed};
@@ -11,6 +12,7 @@ ghost use Rattle.store_head.specs.Writing.{index, SameIndex};
 use store_head::{IndexMut, Refusal, Store};
 
 // The refusal of ON: 14 where there are fewer entries than sparse ones.
+#[inline(always)]
 pub fn refuse_on(store: &Store) -> Result<(), Refusal>
     requires { WellFormed (seen store.now) }
     ensures { refused_by result ≡ refusal_of (inner On (full_of (seen store.now) [])) }
@@ -23,6 +25,7 @@ pub fn refuse_on(store: &Store) -> Result<(), Refusal>
 }
 
 // ON: "index built anew, all marks exact, also when on", or refused with 14 where there are too few entries.
+#[inline(always)]
 pub fn enable_column_access_acceleration_in(store: &mut IndexMut) -> Result<(), Refusal>
     requires { WellFormed (index store.old) }
     ensures told { change_told result (index store.new) ≡ result_of (full_of (index store.old) []) (inner On (full_of (index store.old) [])) }
@@ -51,6 +54,7 @@ pub fn enable_column_access_acceleration_in(store: &mut IndexMut) -> Result<(), 
 }
 
 // OFF: "index dropped, marks exact, also when off". Nothing refuses it.
+#[inline(always)]
 pub fn disable_column_access_acceleration_in(store: &mut IndexMut) -> Result<(), Refusal>
     requires { WellFormed (index store.old) }
     ensures told { change_told result (index store.new) ≡ result_of (full_of (index store.old) []) (inner Off (full_of (index store.old) [])) }

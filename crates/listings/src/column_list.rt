@@ -1,5 +1,6 @@
 // The list of a column: COLONES, on a store that is known to be well-formed. The list is counted first: where it is longer than the answer
 // buffer nothing is written.
+// `inline(always)`: a store handed by reference to a function that is not inlined is laid out in memory first (docs/DECISIONS.md, "Form").
 ghost use Rattle.std.specs.Prelude.{◌≡◌};
 ghost use Rattle.table.specs.declared.Op.TheVariants.{ColOnes};
 ghost use Rattle.model.specs.WellFormed.{WellFormed};
@@ -11,6 +12,7 @@ ghost use Rattle.store_head.specs.Refused.{refused_by, refusal_of};
 use store_head::{Refusal, Store, places};
 
 // Whether COLONES is refused: 5 past the width, 6 in the tail, 9 the index off, 11 a spent column, 15 as for ITER.
+#[inline(always)]
 pub fn refuse_col_ones(
     store: &Store,
     answers: &[u32],
@@ -43,6 +45,7 @@ pub fn refuse_col_ones(
 }
 
 // COLONES: the rows a to b-1 that hold one in column c, rising, from the index's list of the column.
+#[inline(always)]
 pub fn get_ones_in_column_in(
     store: &Store,
     answers: &mut [u32],

@@ -1,5 +1,6 @@
 // The lists of a row: ITER and TAILONES, on a store that is known to be well-formed. The list is counted first: where it is longer than the answer
 // buffer nothing is written.
+// `inline(always)`: a store handed by reference to a function that is not inlined is laid out in memory first (docs/DECISIONS.md, "Form").
 ghost use Rattle.std.specs.Prelude.{◌≡◌};
 ghost use Rattle.table.specs.declared.Op.TheVariants.{Iter, TailOnes};
 ghost use Rattle.model.specs.WellFormed.{WellFormed};
@@ -12,6 +13,7 @@ use permutation::LogicalRow;
 use store_head::{Refusal, Store};
 
 // Whether ITER is refused: 4 past the height, 6 where b is past the sparse columns, 15 where the list is longer than the buffer.
+#[inline(always)]
 pub fn refuse_iter(store: &Store, answers: &[u32], r: u32, a: u32, b: u32) -> Result<(), Refusal>
     requires { WellFormed (seen store.now) }
     ensures { refused_by result ≡ refusal_of (inner (Iter (record { r = r; a = a; b = b })) (full_of (seen store.now) answers.now)) }
@@ -31,6 +33,7 @@ pub fn refuse_iter(store: &Store, answers: &[u32], r: u32, a: u32, b: u32) -> Re
 }
 
 // ITER: the sparse columns a to b-1 that hold one in row r, by rising home number: the order of the row's list.
+#[inline(always)]
 pub fn get_row_iter_in(
     store: &Store,
     answers: &mut [u32],
@@ -49,6 +52,7 @@ pub fn get_row_iter_in(
 }
 
 // Whether TAILONES is refused: 4 past the height, 6 where a is not the first tail column or there is none, 15 as for ITER.
+#[inline(always)]
 pub fn refuse_tail_ones(store: &Store, answers: &[u32], r: u32, a: u32) -> Result<(), Refusal>
     requires { WellFormed (seen store.now) }
     ensures { refused_by result ≡ refusal_of (inner (TailOnes (record { r = r; a = a })) (full_of (seen store.now) answers.now)) }
@@ -70,6 +74,7 @@ pub fn refuse_tail_ones(store: &Store, answers: &[u32], r: u32, a: u32) -> Resul
 }
 
 // TAILONES: the tail columns that hold one in row r, rising. The caller names the first of them, a.
+#[inline(always)]
 pub fn query_non_zero_columns_in(
     store: &Store,
     answers: &mut [u32],

@@ -1,4 +1,5 @@
 // MAKE: the one call that takes any lent numbers. It clears every lent store buffer to its end, so that all of it counts as unused.
+// `inline(always)`: a store handed by reference to a function that is not inlined is laid out in memory first (docs/DECISIONS.md, "Form").
 ghost use Rattle.std.specs.Prelude.{◌≡◌, []};
 ghost use Rattle.table.specs.declared.Op.TheVariants.{Make};
 ghost use Rattle.table.specs.Room.{short};
@@ -23,6 +24,7 @@ fn outside_limits(p: Sizes) -> bool
 }
 
 // Refusal 3: whether one of the buffers is too short. Products of two 32-bit numbers fit a usize.
+#[inline(always)]
 fn too_short(store: &Store, p: Sizes) -> bool
     ensures { result ≡ short (lent_of (full_of (seen store.now) [])) p }
 {
@@ -42,6 +44,7 @@ fn too_short(store: &Store, p: Sizes) -> bool
 }
 
 // The refusal of MAKE: 2 outside the limits, 3 where a buffer is too short. The numbers in the buffers count for nothing.
+#[inline(always)]
 pub fn refuse_make(store: &Store, p: Sizes) -> Result<(), Refusal>
     ensures { refused_by result ≡ refusal_of (inner (Make p) (full_of (seen store.now) [])) }
 {
@@ -55,6 +58,7 @@ pub fn refuse_make(store: &Store, p: Sizes) -> Result<(), Refusal>
 }
 
 // MAKE: "all zero, homes equal, index off", or refused with 2 or 3. `slots` of the sizes are the slots for each row.
+#[inline(always)]
 pub fn new(store: &mut StoreMut, p: Sizes) -> Result<(), Refusal>
     ensures told { change_told result (lent store.new) ≡ result_of (full_of (lent store.old) []) (step (Make p) (full_of (lent store.old) [])) }
     ensures same { SameSlices store.old store.new }

@@ -1,6 +1,6 @@
 -- WORDS: what each way out says, and that the definition says the same. Assumes nothing.
 use mathlib.Core.Path.{◌≡◌, refl, sym, ap}
-use mathlib.Core.List.{List}
+use mathlib.Core.List.{List, []}
 use Prim.Native.Nat.{ℕ, ◌*◌, ◌^◌, ◌≤◌, ◌<◌}
 use lib.ListN.{get_or}
 use borrow.Author.Tests.{le-leb, lt-leb, eq-eqb, ne_eqb}
@@ -14,6 +14,7 @@ use Rattle.model.specs.Store.{Full, edge, home_row}
 use Rattle.model.specs.WellFormed.{WellFormed}
 use Rattle.model.specs.Step.{inner}
 use Rattle.model.proofs.Tail.{words-mean}
+use Rattle.store_head.specs.Told.{handed}
 use Rattle.store_head.proofs.QueryPlaces.{words-in}
 
 module _ (p : RowTail) (f : Full) where
@@ -36,3 +37,14 @@ module _ (p : RowTail) (f : Full) where
       pub words-stand : l ≡ stretch f.store.words (home_row f.store p.r * words_for f.store.head.n) (words_for f.store.head.n)
       words-stand =
           rw (el, ey, ek) (sym (stretch-part f.store.words (home_row f.store p.r * words_for f.store.head.n) (words_for f.store.head.n) (words-in f.store v p.r (home_row f.store p.r) hr refl (home_row f.store p.r) refl).fits))
+
+      -- the part that is handed back
+      pub part-are : p.a ≡ edge f.store → ((i : ℕ) → get_or f.store.words i 0 < 2 ^ 64) → l ≡ handed (reply_of (inner (Words p) f))
+      part-are ha fit = ap handed (words_are ha fit)
+
+-- refused: nothing is handed back
+pub none_row : (p : RowTail) (f : Full) → f.store.head.h ≤ p.r → [] ≡ handed (reply_of (inner (Words p) f))
+none_row p f h = ap handed (words_row p f h)
+
+pub none-side : (p : RowTail) (f : Full) → p.r < f.store.head.h → (p.a ≡ edge f.store → ⊥) → [] ≡ handed (reply_of (inner (Words p) f))
+none-side p f hr h = ap handed (words-side p f hr h)

@@ -1,4 +1,5 @@
 // GET, COUNT and SIZE on a store that is known to be well-formed: each refuses by number, in 01's order, or answers.
+// `inline(always)`: a store handed by reference to a function that is not inlined is laid out in memory first (docs/DECISIONS.md, "Form").
 ghost use Rattle.std.specs.Prelude.{◌≡◌, []};
 ghost use Rattle.table.specs.declared.Op.TheVariants as op;
 ghost use Rattle.table.specs.Run.{ok, reply_of};
@@ -11,6 +12,7 @@ use permutation::LogicalRow;
 use store_head::{Numbers, Refusal, Size, Store, places};
 
 // SIZE: height, width and tail.
+#[inline(always)]
 pub fn size_in(store: &Store) -> Size
     requires { WellFormed (seen store.now) }
     ensures { ok (sizes result) ≡ reply_of (inner op.Size (full_of (seen store.now) [])) }
@@ -20,6 +22,7 @@ pub fn size_in(store: &Store) -> Size
 }
 
 // GET: the bit in row r and column c, from the row's list or from its tail words.
+#[inline(always)]
 pub fn get_in(store: &Store, r: u32, c: u32) -> Result<u32, Refusal>
     requires { WellFormed (seen store.now) }
     ensures { number_says result ≡ reply_of (inner (op.Get (record { r = r; c = c })) (full_of (seen store.now) [])) }
@@ -44,6 +47,7 @@ pub fn get_in(store: &Store, r: u32, c: u32) -> Result<u32, Refusal>
 }
 
 // COUNT: how many of the sparse columns a to b-1 hold one in row r.
+#[inline(always)]
 pub fn count_ones_in(store: &Store, r: u32, a: u32, b: u32) -> Result<u32, Refusal>
     requires { WellFormed (seen store.now) }
     ensures { number_says result ≡ reply_of (inner (op.Count (record { r = r; a = a; b = b })) (full_of (seen store.now) [])) }

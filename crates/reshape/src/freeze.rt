@@ -1,4 +1,5 @@
 // FREEZE: the last sparse column becomes the first tail column. Its index list names every row that may have a one there.
+// `inline(always)`: a store handed by reference to a function that is not inlined is laid out in memory first (docs/DECISIONS.md, "Form").
 ghost use Rattle.std.specs.Prelude.{◌≡◌, true, [], suc, ◌*◌, ◌≤◌, ◌<◌, length, get_or, set};
 ghost use Rattle.laws.specs.Plain.{pick};
 ghost use Rattle.laws.specs.Rows.{member, take_out};
@@ -56,6 +57,7 @@ fn put_first(words: &mut [u64], n: u32, y: usize, had: bool)
 }
 
 // The refusal of FREEZE: 5 past the width, 6 not the last sparse column, 9 the index off, 13 too few words.
+#[inline(always)]
 pub fn refuse_freeze(store: &Store, c: u32) -> Result<(), Refusal>
     requires { WellFormed (seen store.now) }
     ensures { refused_by result ≡ refusal_of (inner (Freeze (freezing c)) (full_of (seen store.now) [])) }
@@ -78,6 +80,7 @@ pub fn refuse_freeze(store: &Store, c: u32) -> Result<(), Refusal>
 }
 
 // FREEZE: "column w-n-1 joins the tail, cells kept". The tail grows by a zero column on the left; then each listed row that still has the column moves its one there.
+#[inline(always)]
 pub fn hint_column_dense_and_frozen_in(store: &mut CellsMut, c: u32) -> Result<(), Refusal>
     requires { WellFormed (cells store.old) }
     ensures told { change_told result (cells store.new) ≡ result_of (full_of (cells store.old) []) (inner (Freeze (freezing c)) (full_of (cells store.old) [])) }

@@ -1,4 +1,5 @@
 // RESIZE: "first h rows and w columns stay", by logical number. Each kept row is brought home first, so that the rows that go lie behind those that stay.
+// `inline(always)`: a store handed by reference to a function that is not inlined is laid out in memory first (docs/DECISIONS.md, "Form").
 ghost use Rattle.std.specs.Prelude.{◌≡◌, false, ◌&&◌, [], ◌-◌, ◌*◌, ◌≤◌, ◌<◌, ltb};
 ghost use Rattle.laws.specs.Words.{words_for};
 ghost use Rattle.sparse_vec.specs.Row.{kept_below};
@@ -71,6 +72,7 @@ pub fn refuse_resize(head: Numbers, h: u32, w: u32) -> Result<(), Refusal>
 }
 
 // Row `r` changes places with what is kept in home `r`.
+#[inline(always)]
 fn bring_home(store: &mut ShapeMut, r: u32)
     requires well_formed { WellFormed (shape store.old) }
     requires r_low { r < store.old.head.h }
@@ -90,6 +92,7 @@ fn bring_home(store: &mut ShapeMut, r: u32)
 }
 
 // The rows 0 to k-1 are brought home.
+#[inline(always)]
 fn bring_all(store: &mut ShapeMut, k: u32)
     requires well_formed { WellFormed (shape store.old) }
     requires off { store.old.head.on ≡ false }
@@ -103,6 +106,7 @@ fn bring_all(store: &mut ShapeMut, k: u32)
 }
 
 // The rows from home `k` on are cleared.
+#[inline(always)]
 fn drop_rows(store: &mut ShapeMut, k: u32)
     requires well_formed { WellFormed (shape store.old) }
     requires k_low { k ≤ store.old.head.h }
@@ -123,6 +127,7 @@ fn drop_rows(store: &mut ShapeMut, k: u32)
 }
 
 // Home row `y` keeps of its list the columns whose logical numbers are below `w`.
+#[inline(always)]
 fn keep_row(store: &mut ShapeMut, y: usize, w: u32)
     requires well_formed { WellFormed (shape store.old) }
     requires y_low { y < store.old.head.h }
@@ -141,6 +146,7 @@ fn keep_row(store: &mut ShapeMut, y: usize, w: u32)
 }
 
 // Every row keeps the columns below `w`, and the whole tail goes.
+#[inline(always)]
 fn drop_columns(store: &mut ShapeMut, w: u32)
     requires well_formed { WellFormed (shape store.old) }
     requires off { store.old.head.on ≡ false }
@@ -157,6 +163,7 @@ fn drop_columns(store: &mut ShapeMut, w: u32)
 }
 
 // RESIZE: "first h rows and w columns stay; n stays if w is equal, else 0".
+#[inline(always)]
 pub fn resize_in(store: &mut ShapeMut, h: u32, w: u32) -> Result<(), Refusal>
     requires { WellFormed (shape store.old) }
     ensures told { change_told result (shape store.new) ≡ result_of (full_of (shape store.old) []) (inner (Resize (resizing h w)) (full_of (shape store.old) [])) }

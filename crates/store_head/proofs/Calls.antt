@@ -1,7 +1,8 @@
 -- A public call checks the store: a damaged one is refused with 1, else the call is its inner twin. Assumes nothing.
 use mathlib.Core.Path.{◌≡◌, refl, sym, ap, ◌∙◌}
 use mathlib.Core.Bool.{Bool, true, false}
-use mathlib.Core.List.{List}
+use mathlib.Core.List.{List, []}
+use Prim.Native.Nat.{ℕ}
 use Rattle.table.specs.declared.Op.{Op}
 use Rattle.table.specs.Refusals.{Check, refused, done, outcome}
 use Rattle.table.specs.Step.{answer}
@@ -12,6 +13,7 @@ use Rattle.model.specs.WellFormed.{WellFormed}
 use Rattle.model.specs.Check.{well_formed}
 use Rattle.model.specs.Step.{Result, result_of, full_after, step, inner}
 use Rattle.model.proofs.Check.{check_sound}
+use Rattle.store_head.specs.Told.{handed}
 
 module _ (o : Op) (f : Full) where
   pub damaged : is_make (kind o) ≡ false → well_formed f.store ≡ false → step o f ≡ refused 1
@@ -34,6 +36,13 @@ module _ (o : Op) (f : Full) where
 
   pub whole-result : (r : Result) → true ≡ well_formed f.store → r ≡ result_of f (inner o f) → r ≡ result_of f (step o f)
   whole-result r w e = e ∙ ap (result_of f) (whole (sym w))
+
+  -- the part that WORDS hands back
+  pub damaged-handed : is_make (kind o) ≡ false → false ≡ well_formed f.store → [] ≡ handed (reply_of (step o f))
+  damaged-handed n w = ap handed (damaged-reply n w)
+
+  pub whole-handed : (l : List ℕ) → true ≡ well_formed f.store → l ≡ handed (reply_of (inner o f)) → l ≡ handed (reply_of (step o f))
+  whole-handed l w e = e ∙ ap handed (ap reply_of (whole (sym w)))
 
 pub sound : (s : Store) → true ≡ well_formed s → WellFormed s
 sound s w = check_sound s (sym w)

@@ -42,3 +42,8 @@ words_says (Err k) = nay (number_of k)
 abbrev pub WordsAt : List ℕ → (at size : ℕ) → Result (Bor (List ℕ)) Refusal → Type 0
 WordsAt words at size (Ok ws) = ws.now ≡ stretch words at size
 WordsAt words at size (Err k) = Unit {0}
+
+-- .. and the part alone, as the call that can't fail hands it back: "empty when refused"
+abbrev pub handed : Reply → List ℕ
+handed (ok l) = l
+handed (nay k) = []

@@ -1,4 +1,5 @@
 // A store as its functions take it: the head's numbers and the ten lent slices, which always travel together.
+// `inline(always)`: a store handed by reference to a function that is not inlined is laid out in memory first (docs/DECISIONS.md, "Form").
 ghost use Rattle.std.specs.Prelude.{◌≡◌, ◌<◌, length, get_or};
 ghost use Rattle.laws.specs.Parts.{row_of};
 ghost use Rattle.store_head.specs.Lent.{seen, lent};
@@ -70,6 +71,7 @@ impl StoreMut<'_> {
     }
 
     // The same store, lent to be asked.
+    #[inline(always)]
     pub fn view(&self) -> Store<'_>
         ensures { seen result ≡ lent self.now }
     {

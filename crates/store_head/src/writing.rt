@@ -1,5 +1,6 @@
 // What each kind of change is lent: its slices that it writes as `&mut`, the others as `&`, since a host lends those `const` (`clatterthaw_set` and its like). A change reads the whole
 // store, so each has all ten.
+// `inline(always)`: a store handed by reference to a function that is not inlined is laid out in memory first (docs/DECISIONS.md, "Form").
 ghost use Rattle.std.specs.Prelude.{◌≡◌, ◌<◌, length, get_or};
 ghost use Rattle.store_head.specs.Lent.{seen};
 ghost use Rattle.store_head.specs.Writing.{cells, sums, row_maps, column_maps, index, shape};
@@ -25,6 +26,7 @@ pub struct CellsMut<'a> {
 
 impl CellsMut<'_> {
     // The same store, lent to be asked.
+    #[inline(always)]
     pub fn view(&self) -> Store<'_>
         ensures { seen result ≡ cells self.now }
     {
@@ -62,6 +64,7 @@ pub struct SumMut<'a> {
 
 impl SumMut<'_> {
     // The same store, lent to be asked.
+    #[inline(always)]
     pub fn view(&self) -> Store<'_>
         ensures { seen result ≡ sums self.now }
     {
@@ -99,6 +102,7 @@ pub struct RowMapsMut<'a> {
 
 impl RowMapsMut<'_> {
     // The same store, lent to be asked.
+    #[inline(always)]
     pub fn view(&self) -> Store<'_>
         ensures { seen result ≡ row_maps self.now }
     {
@@ -136,6 +140,7 @@ pub struct ColumnMapsMut<'a> {
 
 impl ColumnMapsMut<'_> {
     // The same store, lent to be asked.
+    #[inline(always)]
     pub fn view(&self) -> Store<'_>
         ensures { seen result ≡ column_maps self.now }
     {
@@ -173,6 +178,7 @@ pub struct IndexMut<'a> {
 
 impl IndexMut<'_> {
     // The same store, lent to be asked.
+    #[inline(always)]
     pub fn view(&self) -> Store<'_>
         ensures { seen result ≡ index self.now }
     {
@@ -210,6 +216,7 @@ pub struct ShapeMut<'a> {
 
 impl ShapeMut<'_> {
     // The same store, lent to be asked.
+    #[inline(always)]
     pub fn view(&self) -> Store<'_>
         ensures { seen result ≡ shape self.now }
     {

@@ -5,7 +5,7 @@ ghost use Rattle.table.specs.declared.Op.TheVariants.{Iter, TailOnes, ColOnes};
 ghost use Rattle.table.specs.Run.{reply_of};
 ghost use Rattle.model.specs.WellFormed.{WellFormed};
 ghost use Rattle.model.specs.Step.{inner};
-ghost use Rattle.store_head.specs.Lent.{seen, full_of};
+ghost use Rattle.store_head.specs.Lent.{seen, lent, full_of};
 ghost use Rattle.store_head.specs.Refused.{refusal_of};
 ghost use Rattle.lines.specs.Line.{line_long};
 ghost use Rattle.operations.specs.Applied.{form};
@@ -14,7 +14,7 @@ ghost use Rattle.turns.specs.Said.{long_by, most_long};
 use operations::refuse;
 use permutation::LogicalRow;
 use queries::{query, row_tail};
-use store_head::{Refusal, Store, places};
+use store_head::{Refusal, Store, StoreMut, places};
 use table::{ColumnRange, Op, RowRange, RowTail};
 
 // The line of ITER, where nothing refuses it.
@@ -99,10 +99,11 @@ fn most_long(op: Op, answers: &[u32]) -> usize
     }
 }
 
-// Whether the line of an operation has room. Where its longest one has, nothing is measured: the store is asked once, by the operation itself.
-pub fn has_room(store: &Store, answers: &[u32], op: Op, room: usize) -> bool
-    requires { WellFormed (seen store.now) }
-    ensures { result ≡ leb (line_long (reply_of (inner op (full_of (seen store.now) answers.now)))) room }
+// Whether the line of an operation has room. Where its longest one has, nothing is measured: the store is asked once, by the operation itself. Only what is
+// measured takes a view of the store: one for every record costs as much as a cheap operation does.
+pub fn has_room(store: &StoreMut, answers: &[u32], op: Op, room: usize) -> bool
+    requires { WellFormed (lent store.now) }
+    ensures { result ≡ leb (line_long (reply_of (inner op (full_of (lent store.now) answers.now)))) room }
 {
-    most_long(op, answers) <= room || line_length(store, answers, op) <= room
+    most_long(op, answers) <= room || line_length(&store.view(), answers, op) <= room
 }

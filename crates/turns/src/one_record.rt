@@ -40,7 +40,7 @@ fn perform(
     ensures same { SameSlices store.old store.new }
     ensures lines_same { lines.new.bytes.ghost_name ≡ lines.old.bytes.ghost_name }
 {
-    if !measure::has_room(&store.view(), answers, op, lines.room()) {
+    if !measure::has_room(store, answers, op, lines.room()) {
         return None;
     }
     let from = tell::part_at(store, op);
