@@ -117,9 +117,9 @@ pub fn changed(p: PlainHead, d: Numbers, told: Result<(), Refusal>) -> PlainChan
             head: plain(d),
             no: 0,
         },
-        Err(k) => PlainChanged {
+        Err(why) => PlainChanged {
             head: p,
-            no: k.number(),
+            no: why.number(),
         },
     }
 }

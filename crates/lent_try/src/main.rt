@@ -1,5 +1,5 @@
 #![tactic(auto)]
-// Tries `lent` at its edges and prints a line for each trial: the four numbers that a clear leaves, or 1 for yes and 0 for no.
+// Tries `lent` at its edges and prints a line for each trial: the four numbers that a clear, a move or an exchange leaves, or 1 for yes and 0 for no.
 use lent::Number;
 
 // Four numbers in a line.
@@ -29,6 +29,22 @@ fn clear<T: Number + Into<u64>>(mut s: [T; 4], from: usize, to: usize) {
 // Whether those of four numbers from `from` on are zero.
 fn rest<T: Number>(s: [T; 4], from: usize) {
     tell(lent::rest_zero(&s, from));
+}
+
+// Four numbers, with n of them put elsewhere.
+fn moved<T: Number + Into<u64>>(mut s: [T; 4], from: usize, to: usize, n: usize) {
+    if n <= 4 && from <= 4 - n && to <= 4 - n {
+        lent::move_stretch(&mut s, from, to, n);
+    }
+    show(&s);
+}
+
+// Four numbers, two stretches of which change places.
+fn exchanged<T: Number + Into<u64>>(mut s: [T; 4], a: usize, b: usize, n: usize) {
+    if n <= 4 && a <= 4 - n && b <= 4 - n && (a + n <= b || b + n <= a) {
+        lent::exchange(&mut s, a, b, n);
+    }
+    show(&s);
 }
 
 // A slice with no place.
@@ -64,4 +80,26 @@ fn main() {
     rest([0u32, 0, 0, 65536], 4);
     rest([0u64, 0, 4294967296, 0], 2);
     rest([0u64, 0, 4294967296, 0], 3);
+    moved(bytes, 0, 2, 0);
+    moved(bytes, 4, 4, 0);
+    moved(bytes, 0, 0, 4);
+    moved(bytes, 0, 1, 3);
+    moved([65535u16, 65534, 65533, 65532], 1, 0, 3);
+    moved([4294967295u32, 4294967294, 4294967293, 4294967292], 3, 0, 1);
+    moved(
+        [u64::MAX, u64::MAX - 1, u64::MAX - 2, u64::MAX - 3],
+        0,
+        2,
+        2,
+    );
+    exchanged(bytes, 0, 4, 0);
+    exchanged(bytes, 0, 3, 1);
+    exchanged([65535u16, 65534, 65533, 65532], 2, 0, 2);
+    exchanged([4294967295u32, 4294967294, 4294967293, 4294967292], 1, 2, 1);
+    exchanged(
+        [u64::MAX, u64::MAX - 1, u64::MAX - 2, u64::MAX - 3],
+        0,
+        2,
+        2,
+    );
 }

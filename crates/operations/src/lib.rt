@@ -75,6 +75,8 @@ pub fn call(store: &mut StoreMut, answers: &mut [u32], op: Op) -> Result<Told, R
     ensures told { op_told (form op) (part_at op (lent store.old)) (lent store.new) result answers.new ≡ result_of (full_of (lent store.old) answers.old) (step op (full_of (lent store.old) answers.old)) }
     ensures same { SameSlices store.old store.new }
 {
-    guard(store, op)?;
-    apply(store, answers, op)
+    match guard(store, op) {
+        Ok(()) => apply(store, answers, op),
+        Err(why) => Err(why),
+    }
 }

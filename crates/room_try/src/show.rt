@@ -25,7 +25,9 @@ pub fn words(ws: &[u64]) {
 // What is told, but for the words.
 pub fn told(told: Told, answers: &[u32]) {
     match told {
-        Told::Done => line::<u32>(b"ok", &[]),
+        Told::Done => {
+            io::write_all(1, b"ok\n");
+        }
         Told::Number(x) => line(b"ok", &[x]),
         Told::Sizes(p) => line(b"ok", &[p.h, p.w, p.n]),
         Told::List(n) => {

@@ -11,9 +11,10 @@ use Rattle.model.specs.Store as model
 use Rattle.model.specs.Step as step
 use Rattle.store_head.specs.declared.refusal.Refusal.{Refusal}
 use Rattle.store_head.specs.declared.Size.{Size}
+use Rattle.store_head.specs.declared.Numbers.{Numbers}
 use Rattle.store_head.specs.declared.store.StoreMut.{StoreMut}
-use Rattle.store_head.specs.Lent.{lent}
-use Rattle.store_head.specs.Told.{number_says, size_says, list_told, change_told, words_says}
+use Rattle.store_head.specs.Lent.{lent, head_of}
+use Rattle.store_head.specs.Told.{number_says, size_says, list_told, change_told, words_says, handed}
 use Rattle.store_head.proofs.Refuses.{same-refusal}
 use Rattle.store_head.proofs.Replies.{number_in, values, value, never}
 use Rattle.store_head.proofs.Slices.{lists, same_head}
@@ -58,6 +59,10 @@ words-determined (Ok c) (Err k) r p q = never _ _ (p ∙ sym q)
 words-determined (Err k) (Ok d) r p q = never _ _ (q ∙ sym p)
 words-determined (Err k) (Err j) r p q = ap (λ n. Err n) (same-refusal k j (ap number_in (p ∙ sym q)))
 
+-- .. and the part that the call that can't fail hands back
+pub part-determined : (l m : List ℕ) (r : Reply) → l ≡ handed r → m ≡ handed r → l ≡ m
+part-determined l m r p q = p ∙ sym q
+
 -- ---- ITER, TAILONES, COLONES: the count, and every number of the answer buffer
 pub list-determined : (s : model.Store) (x y : Result ℕ Refusal) (a b : List ℕ) (r : step.Result) → list_told s x a ≡ r → list_told s y b ≡ r → (x ≡ y) × (a ≡ b)
 unfolding number_in values
@@ -77,8 +82,13 @@ answer-determined (Err k) (Ok y) u v r p q = never _ _ (ap (λ (t : step.Result)
 answer-determined (Err k) (Err j) u v r p q =
     (ap (λ n. Err n) (same-refusal k j (ap (λ (t : step.Result). number_in t.reply) (p ∙ sym q))), ap (λ (t : step.Result). t.after.store) (p ∙ sym q))
 
+-- .. with the head as the code holds it and the ten lists, over the struct of any kind of change: `u` and `v` are what the two structs read as, and `refl` says so of their heads
+pub head-determined : (x y : Result (Unit {0}) Refusal) (d e : Numbers) (u v : model.Store) (r : step.Result) → u.head ≡ head_of d → v.head ≡ head_of e
+    → change_told x u ≡ r → change_told y v ≡ r → (x ≡ y) × ((d ≡ e) × (lists u ≡ lists v))
+head-determined x y d e u v r hd he p q =
+    let both = answer-determined x y u v r p q in
+    (both.0, (same_head d e (sym hd ∙ ap (λ (s : model.Store). s.head) both.1 ∙ he), ap lists both.1))
+
 pub change-determined : (x y : Result (Unit {0}) Refusal) (s t : StoreMut) (r : step.Result) → change_told x (lent s) ≡ r → change_told y (lent t) ≡ r
     → (x ≡ y) × ((s.head ≡ t.head) × (lists (lent s) ≡ lists (lent t)))
-change-determined x y s t r p q =
-    let both = answer-determined x y (lent s) (lent t) r p q in
-    (both.0, (same_head s.head t.head (ap (λ (u : model.Store). u.head) both.1), ap lists both.1))
+change-determined x y s t r p q = head-determined x y s.head t.head (lent s) (lent t) r refl refl p q

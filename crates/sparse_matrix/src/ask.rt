@@ -4,19 +4,21 @@ ghost use Rattle.laws.specs.Words.{words_for};
 ghost use Rattle.table.specs.declared.Op.TheVariants as op;
 ghost use Rattle.table.specs.Run.{reply_of};
 ghost use Rattle.model.specs.Step.{step};
-ghost use Rattle.store_head.specs.Lent.{seen, full_of};
-ghost use Rattle.store_head.specs.Told.{number_says, size_says, words_says, WordsAt};
+ghost use Rattle.store_head.specs.Lent.{seen, store_of, full_of};
+ghost use Rattle.store_head.specs.Told.{number_says, size_says, words_says, WordsAt, handed};
 
 use queries::{query, row_tail};
 use store_check::sound;
-use store_head::{Refusal, Size, Store};
+use store_head::{Numbers, Refusal, Size, Store};
 
 // SIZE: height, width and tail.
 pub fn size(store: &Store) -> Result<Size, Refusal>
     ensures { size_says result ≡ reply_of (step op.Size (full_of (seen store.now) [])) }
 {
-    sound(store)?;
-    Ok(query::size_in(store))
+    match sound(store) {
+        Ok(()) => Ok(query::size_in(store)),
+        Err(why) => Err(why),
+    }
 }
 
 // GET: the bit in row r and column c.
@@ -42,4 +44,55 @@ pub fn get_sub_row<'a>(store: &Store<'a>, r: u32, a: u32) -> Result<&'a [u64], R
 {
     sound(store)?;
     row_tail::get_sub_row_in(store, r, a)
+}
+
+// WORDS, the call that hands back the part of the lent words and can't fail; empty where WORDS is refused. Of the ten slices only the words stay lent with the part.
+pub fn sub_row<'a>(
+    head: Numbers,
+    slots: &[u16],
+    counts: &[u16],
+    row_homes: &[u32],
+    row_logicals: &[u32],
+    column_homes: &[u16],
+    column_logicals: &[u16],
+    marks: &[u8],
+    starts: &[u64],
+    entries: &[u32],
+    words: &'a [u64],
+    r: u32,
+    a: u32,
+) -> &'a [u64]
+    ensures { result.now ≡ handed (reply_of (step (op.Words (record { r = r; a = a })) (full_of (store_of head slots.now counts.now row_homes.now row_logicals.now column_homes.now column_logicals.now marks.now starts.now entries.now words.now) []))) }
+{
+    let store = Store {
+        head,
+        slots,
+        counts,
+        row_homes,
+        row_logicals,
+        column_homes,
+        column_logicals,
+        marks,
+        starts,
+        entries,
+        words,
+    };
+    if !store_check::well_formed(&store) {
+        return &words[..0];
+    }
+    row_tail::sub_row_in(
+        head,
+        slots,
+        counts,
+        row_homes,
+        row_logicals,
+        column_homes,
+        column_logicals,
+        marks,
+        starts,
+        entries,
+        words,
+        r,
+        a,
+    )
 }

@@ -4,8 +4,6 @@ ghost use Rattle.std.specs.Prelude.{◌≡◌};
 ghost use Rattle.store_head.specs.Lent.{head_of};
 ghost use Rattle.making.specs.Making.{empty_head};
 
-use store_head::Numbers;
-
 mod alter;
 mod ask;
 mod checked;
@@ -14,7 +12,7 @@ mod list;
 mod shape;
 
 pub use alter::{add_assign_rows, set, swap_columns, swap_rows};
-pub use ask::{count_ones, get, get_sub_row, size};
+pub use ask::{count_ones, get, get_sub_row, size, sub_row};
 pub use checked::well_formed;
 pub use index::{
     disable_column_access_acceleration, enable_column_access_acceleration,
@@ -23,8 +21,10 @@ pub use index::{
 pub use list::{get_ones_in_column, get_row_iter, query_non_zero_columns};
 pub use shape::{new, resize};
 pub use store_head::{
-    CellsMut, ColumnMapsMut, IndexMut, Refusal, RowMapsMut, ShapeMut, Size, Store, StoreMut, SumMut,
+    CellsMut, ColumnMapsMut, IndexMut, Numbers, Refusal, RowMapsMut, ShapeMut, Size, Store,
+    StoreMut, SumMut,
 };
+pub use table::Sizes;
 
 // The head of "a 0 by 0 store".
 pub fn empty() -> Numbers

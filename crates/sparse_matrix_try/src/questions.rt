@@ -29,13 +29,28 @@ pub fn numbers(store: &Store) {
     count(store, 1, 0, 2);
     count(store, 1, 2, 1);
     count(store, 1, 0, 3);
-    let words = sparse_matrix::get_sub_row(store, 1, 2);
-    show::told(words.map(|ws| [ws.len() as u64]));
-    show::line(b"words", words.unwrap_or(&[]));
-    show::line(
-        b"words",
-        sparse_matrix::get_sub_row(store, 1, 1).unwrap_or(&[]),
-    );
+    show::told(sparse_matrix::get_sub_row(store, 1, 2).map(|ws| [ws.len() as u64]));
+    show::line(b"words", sub_row(store, 1, 2));
+    show::line(b"words", sub_row(store, 1, 1));
+}
+
+// WORDS in row r, by the call that hands back the part alone.
+fn sub_row<'a>(store: &Store<'a>, r: u32, a: u32) -> &'a [u64] {
+    sparse_matrix::sub_row(
+        store.head,
+        store.slots,
+        store.counts,
+        store.row_homes,
+        store.row_logicals,
+        store.column_homes,
+        store.column_logicals,
+        store.marks,
+        store.starts,
+        store.entries,
+        store.words,
+        r,
+        a,
+    )
 }
 
 // ITER, TAILONES and COLONES over the answers.
