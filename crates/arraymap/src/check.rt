@@ -13,9 +13,9 @@ pub fn shape_ok(m: usize, starts: &[u64], entries: &[u32], marks: &[u8]) -> bool
     starts[0] == 0
         && starts[..m + 1].is_sorted()
         && end <= entries.len()
-        && lent::rest_zero(starts, m + 1)
-        && lent::rest_zero(entries, end)
-        && lent::rest_zero(marks, m)
+        && lent::rest_zero_in_steps(starts, m + 1)
+        && lent::rest_zero_in_steps(entries, end)
+        && lent::rest_zero_in_steps(marks, m)
         && marks[..m].iter().all(|mark| *mark <= 1)
 }
 

@@ -1,7 +1,7 @@
 // Stretches of a lent slice.
 ghost use Rattle.std.specs.Prelude.{◌≡◌, ◌+◌, ◌-◌, ◌≤◌, length};
 ghost use Rattle.laws.specs.Parts.{part, put_at, zeros};
-ghost use Rattle.laws.specs.Tests.{zero_from};
+ghost use Rattle.laws.specs.Tests.{all_below, zero_at, zero_from};
 ghost use Rattle.lent.specs.Stretch.{Stretch, CanMove, Apart};
 
 use crate::Number;
@@ -14,16 +14,43 @@ pub fn clear<T: Number>(s: &mut [T], from: usize, to: usize)
     s[from..to].fill(T::default());
 }
 
-// Whether every place of `s` from `from` on is zero. It is, where `from` is past the end.
+// Whether the places of `s` from `from` to before `to` are zero.
 // The loop has one way out, so that LLVM compares many numbers at once: one that is not zero does not end it early.
-pub fn rest_zero<T: Number>(s: &[T], from: usize) -> bool
-    ensures { result ≡ zero_from (T.nums s.now) from }
+fn stretch_zero<T: Number>(s: &[T], from: usize, to: usize) -> bool
+    requires { Stretch (T.nums s.now) from to }
+    ensures { result ≡ all_below to (zero_at (T.nums s.now) from) }
 {
     let mut zero = true;
-    for i in from..s.len() {
+    for i in from..to {
         zero &= s[i] == T::default();
     }
     zero
+}
+
+// Whether every place of `s` from `from` on is zero. It is, where `from` is past the end.
+pub fn rest_zero<T: Number>(s: &[T], from: usize) -> bool
+    ensures { result ≡ zero_from (T.nums s.now) from }
+{
+    if s.len() <= from {
+        return true;
+    }
+    stretch_zero(s, from, s.len())
+}
+
+// The same in steps: a number that is not zero ends it with its step of 256, however much is lent after it.
+pub fn rest_zero_in_steps<T: Number>(s: &[T], from: usize) -> bool
+    ensures { result ≡ zero_from (T.nums s.now) from }
+{
+    let mut at = from;
+    // no `for`: the last step is shorter
+    while at < s.len() {
+        let end = at + (s.len() - at).min(256);
+        if !stretch_zero(s, at, end) {
+            return false;
+        }
+        at = end;
+    }
+    true
 }
 
 // The n numbers from `from` on, put from `to` on as they were, where the two stretches overlap too.

@@ -47,6 +47,15 @@ fn exchanged<T: Number + Into<u64>>(mut s: [T; 4], a: usize, b: usize, n: usize)
     show(&s);
 }
 
+// The same in steps, over 600 numbers of which one is not zero.
+fn steps(one: usize, from: usize) {
+    let mut s = [0u16; 600];
+    if one < 600 {
+        s[one] = 1;
+    }
+    tell(lent::rest_zero_in_steps(&s, from));
+}
+
 // A slice with no place.
 fn empty() {
     let mut s = [1u8, 2, 3, 4];
@@ -102,4 +111,15 @@ fn main() {
         2,
         2,
     );
+    steps(600, 0);
+    steps(0, 0);
+    steps(0, 1);
+    steps(255, 0);
+    steps(256, 0);
+    steps(256, 256);
+    steps(256, 257);
+    steps(599, 0);
+    steps(599, 599);
+    steps(599, 600);
+    steps(599, usize::MAX);
 }

@@ -1,23 +1,13 @@
 -- `lent::stretch::rest_zero` meets its contract. Assumes nothing.
-use mathlib.Core.Path.{◌≡◌}
-use lib.Dec.{eqb}
-use lib.ListN.{get_or}
 use native.Mathlib.Omega.{arith}
-use Rattle.lent.proofs.Scanning.{scan-start, scan-more, scan-done}
-use Rattle.lent.proofs.Numbers.{nums-length, nums-at}
+use Rattle.laws.specs.Tests.{zero_from}
+use Rattle.lent.proofs.Scanning.{none-after}
+use Rattle.lent.proofs.Numbers.{nums-length}
 use Rattle.lent.proofs.stretch.rest_zero.Goals as goal
 
-pub loop-i-init : goal.loop-i-init
-loop-i-init g c = scan-start _ _
-
-pub loop-i-preserved : goal.loop-i-preserved
-loop-i-preserved g c =
-    let n = g.T.Number in let m = g.met.T.Number in
-    let e = nums-at n.num n.nums n.nums_law c.args.s.now c.loop-i.i c.index-s-i.result c.loop-i-test.true in
-    let z = m.zero_law _ c.default.ensures in
-    let t = m.eq_law c.index-s-i.result c.default.result in
-    let v : c.eq-zero.result ≡ eqb (get_or (n.nums c.args.s.now) c.loop-i.i 0) 0 = cc in
-    rw v (scan-more _ _ _ _ c.loop-i.invariant)
+pub returns-then-s-from : goal.returns-then-s-from
+returns-then-s-from g c = let n = g.T.Number in none-after _ _ (omega (arith, c.if-s-from.true, nums-length n.num n.nums n.nums_law c.args.s.now))
 
 pub returns : goal.returns
-returns g c = let n = g.T.Number in scan-done _ _ _ _ c.loop-i.invariant (omega (arith, nums-length n.num n.nums n.nums_law c.args.s.now))
+unfolding zero_from
+returns g c = let n = g.T.Number in rw (nums-length n.num n.nums n.nums_law c.args.s.now) c.stretch_zero.ensures
